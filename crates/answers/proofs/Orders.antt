@@ -1,0 +1,17 @@
+-- Where no test of an ordered list holds: what an accepting operation has found out.
+-- Assumes nothing.
+use Prim.Native.Nat.{ℕ, zero, suc}
+use mathlib.Core.Bool.{Bool, true, false}
+use mathlib.Core.Path.{_≡_, refl}
+use native.Mathlib.Omega.{arith}
+use Rattle.answers.specs.Answers.{Said, accepted, pickNumber, unlessRefused}
+
+-- the test at hand is passed over, and the number of none of them is 0
+pub first-passed : (test : Bool) (n rest : ℕ) → pickNumber test (suc n) rest ≡ 0 → (test ≡ false) × (rest ≡ 0)
+first-passed true n rest e = absurd (omega arith)
+first-passed false n rest e = (refl, e)
+
+-- an accepting answer comes behind no refusal
+pub accepted-unrefused : {A : Type 0} (n : ℕ) (answer : Said A) {a : A} → unlessRefused n answer ≡ accepted a → (n ≡ 0) × (answer ≡ accepted a)
+accepted-unrefused zero answer e = (refl, e)
+accepted-unrefused (suc n) answer e = let z : _≡_ {A = ℕ} 0 1 = cc in absurd (omega arith)

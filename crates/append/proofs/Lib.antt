@@ -1,0 +1,3 @@
+pub mod Encodings
+pub mod Acceptance
+pub mod Answering

@@ -1,0 +1,9 @@
+pub mod Xor
+pub mod Linear
+pub mod Runs
+pub mod Rule
+pub mod Bytes
+pub mod Divides
+pub mod Unique
+pub mod Damage
+pub mod Only

@@ -1,0 +1,3 @@
+pub mod Catalogue
+pub mod Remainder
+pub mod Table

@@ -1,0 +1,98 @@
+-- What stands at a line: an entry from its fields, and the five facts of a line that verifies.
+-- Assumes nothing.
+use Prim.Native.Nat.{ℕ, _+_, _-_, _<_, _≤_}
+use mathlib.Core.Path.{_≡_, refl}
+use mathlib.Core.List.{List}
+use mathlib.Core.Bool.{Bool, true, false, _&&_}
+use native.Mathlib.Omega.{arith}
+use borrow.Author.Tests.{leb-true, ltb-true, ltb-false, eqb-true, le-leb, lt-ltb, eq-eqb}
+use lib.ListN.{length, take, drop}
+use lib.Dec.{ltb, eqb}
+use Rattle.answers.specs.Answers.{pickNumber}
+use Rattle.fields.specs.Numbers.{field}
+use Rattle.checksum.specs.Catalogue.{crc16}
+use Rattle.entry.specs.Words.{wordMark, wordNamespace, wordKind}
+use Rattle.entry.specs.Layout.{headLength, lengthOf, placed, sumPlace, entryAt, agrees, intact, verifies}
+use Rattle.entry.specs.declared.Entry.{Entry}
+use Rattle.entry.proofs.Packing.{kind-lt}
+
+-- an entry is known by its fields
+pub entry-from-fields : (s : List ℕ) (p : ℕ) {kind ns klen vlen : ℕ} → kind ≡ wordKind (field 4 s p) → ns ≡ wordNamespace (field 4 s p) → klen ≡ field 2 s (p + 4) → vlen ≡ pickNumber (eqb kind 2) 0 (field 2 s (p + 6)) → placed p kind ns klen vlen ≡ entryAt s p
+unfolding entryAt
+entry-from-fields s p a b c d = cc
+
+pub entry-kind : (s : List ℕ) (p : ℕ) → entryAt s p .kind ≡ wordKind (field 4 s p)
+unfolding entryAt placed
+entry-kind s p = refl
+
+pub entry-offset : (s : List ℕ) (p : ℕ) → entryAt s p .offset ≡ p
+unfolding entryAt placed
+entry-offset s p = refl
+
+-- the end, from the checksum's place and from the entry's length
+pub placed-sum : (p kind ns klen vlen : ℕ) → placed p kind ns klen vlen .end ≡ sumPlace (placed p kind ns klen vlen) + 2
+unfolding placed
+placed-sum p kind ns klen vlen = refl
+
+pub placed-end : (p kind ns klen vlen : ℕ) → placed p kind ns klen vlen .end ≡ p + lengthOf kind klen vlen
+unfolding placed lengthOf
+placed-end p kind ns klen vlen = omega arith
+
+pub head-bounds : (kind : ℕ) → (6 ≤ headLength kind) × (headLength kind ≤ 8)
+unfolding headLength
+head-bounds kind = go (eqb kind 2)
+  where
+    go : (b : Bool) → (6 ≤ pickNumber b 6 8) × (pickNumber b 6 8 ≤ 8)
+    go true = (omega arith, omega arith)
+    go false = (omega arith, omega arith)
+
+pub entry-sum : (s : List ℕ) (p : ℕ) → entryAt s p .end ≡ sumPlace (entryAt s p) + 2
+unfolding entryAt
+entry-sum s p = placed-sum p _ _ _ _
+
+-- an entry is eight bytes long at least
+pub entry-long : (s : List ℕ) (p : ℕ) → p + 8 ≤ entryAt s p .end
+unfolding entryAt placed
+entry-long s p = let h = head-bounds (wordKind (field 4 s p)) in omega arith
+
+-- "verifies", its facts one by one, and which entry it is
+pub record Verified (mark : ℕ → ℕ) (s : List ℕ) (p : ℕ) (e : Entry) : Type 0 where
+  pub is : entryAt s p ≡ e
+  pub room : p + 8 ≤ length s
+  pub marked : wordMark (field 4 s p) ≡ mark p
+  pub known : wordKind (field 4 s p) < 3
+  pub within : entryAt s p .end ≤ length s
+  pub agreed : field 2 s (sumPlace (entryAt s p)) ≡ crc16 (take (sumPlace (entryAt s p) - p) (drop p s))
+
+both : (a b : Bool) → a && b ≡ true → (a ≡ true) × (b ≡ true)
+both true b h = (refl, h)
+both false b h = absurd (let z : _≡_ {A = ℕ} 0 1 = cc in omega arith)
+
+pub verified : (mark : ℕ → ℕ) (s : List ℕ) (p : ℕ) → verifies mark s p ≡ true → Verified mark s p (entryAt s p)
+unfolding verifies intact agrees entryAt placed
+verified mark s p h =
+    let a = both _ _ h in
+    let b = both _ _ (a .1) in
+    let c = both _ _ (b .1) in
+    let d = both _ _ (c .1) in
+    record { is = refl; room = leb-true _ _ (a .0); marked = eqb-true _ _ (b .0); known = ltb-true _ _ (c .0); within = leb-true _ _ (d .0); agreed = eqb-true _ _ (d .1) }
+
+pub verifying : (mark : ℕ → ℕ) (s : List ℕ) (p : ℕ) {e : Entry} → Verified mark s p e → verifies mark s p ≡ true
+unfolding verifies intact agrees entryAt placed
+verifying mark s p v =
+    simp (le-leb _ _ (v .room), eq-eqb _ _ (v .marked), lt-ltb _ _ (v .known), le-leb _ _ (v .within), eq-eqb _ _ (v .agreed))
+
+below : (kind : ℕ) → kind < 4 → (kind ≡ 3 → ⊥) → kind < 3
+below kind h n = go (ltb kind 3) refl
+  where
+    go : (b : Bool) → ltb kind 3 ≡ b → kind < 3
+    go true e = ltb-true kind 3 e
+    go false e = absurd (n (omega (arith, ltb-false kind 3 e)))
+
+-- past the tests of mark and type, a line verifies where its entry is intact
+pub verifies-intact : (mark : ℕ → ℕ) (s : List ℕ) (p : ℕ) → p + 8 ≤ length s → wordMark (field 4 s p) ≡ mark p → (wordKind (field 4 s p) ≡ 3 → ⊥) → verifies mark s p ≡ intact s (entryAt s p)
+unfolding verifies
+verifies-intact mark s p room m k =
+    let four = kind-lt (field 4 s p) in
+    let three : wordKind (field 4 s p) < 3 = below (wordKind (field 4 s p)) four k in
+    simp (le-leb _ _ room, eq-eqb _ _ m, lt-ltb _ _ three)

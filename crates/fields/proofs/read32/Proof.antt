@@ -1,0 +1,20 @@
+-- `fields::read32` meets its contract: a field is its two halves.
+-- Assumes nothing.
+use mathlib.Core.Path.{_≡_}
+use Prim.Native.Nat.{_+_, _*_, _^_}
+use native.Mathlib.Omega.{arith}
+use borrow.Author.Needs.{needs}
+use Rattle.fields.specs.Numbers.{field}
+use Rattle.fields.proofs.Widths.{field-join}
+use Rattle.fields.proofs.read32.Statement.{statement}
+use Rattle.fields.proofs.read32.Tie as tie
+
+returns : tie.Need-returns
+returns c =
+    let s = c .before .before .before .args .s .now in
+    let p = c .before .before .before .args .p in
+    let join : field 4 s p ≡ field 2 s p + field 2 s (p + 2) * 256 ^ 2 = field-join 2 2 s p in
+    (omega arith, omega arith)
+
+pub read32-spec : {M : Type 1} → statement M
+read32-spec = tie.close (tie.spec (λ c κs. search needs) (λ c. search needs) (λ c κs. search needs) (λ c. search needs) (λ c. search needs) returns)
