@@ -3,8 +3,11 @@
 use Prim.Native.Nat.{ℕ, zero, suc}
 use mathlib.Core.Path.{_≡_, refl, sym, ap, _∙_}
 use mathlib.Core.List.{List, [], _∷_}
+use native.Mathlib.Omega.{arith}
 use Rattle.answers.specs.Numbers.{numberOf}
-use Rattle.answers.specs.Answers.{Said, refused, unlessRefused}
+use Rattle.answers.specs.Answers.{Said, refused, unlessRefused, saidVerdict}
+use Rattle.answers.specs.declared.Verdict.{Verdict}
+use Rattle.answers.specs.declared.Verdict.the-variants.{Accepted, Refused}
 use Rattle.answers.specs.declared.Refusal.{Refusal}
 use Rattle.answers.specs.declared.Refusal.the-variants.{HeaderTooShort, WrongHeader, RegionTooLarge, BoundPastRegion, NotOnLine, EntryTooShort, WrongMark, WrongChecksum, TypeNotAllowed, UnknownType, KeyTooLong, ValueTooLong, NoSpace, ShardTooLarge, NoWaitingRoom, NumbersUsedUp, NamespaceTooLarge, TooManyOrdinals, NotSound}
 
@@ -64,3 +67,10 @@ refusal-refuses NumbersUsedUp answer = refl
 refusal-refuses NamespaceTooLarge answer = refl
 refusal-refuses TooManyOrdinals answer = refl
 refusal-refuses NotSound answer = refl
+
+-- the paper's words tell a check's answers apart
+pub verdict-once : (a b : Verdict) → saidVerdict a ≡ saidVerdict b → a ≡ b
+verdict-once Accepted Accepted e = refl
+verdict-once Accepted (Refused r) e = absurd (let z : _≡_ {A = ℕ} 0 1 = cc in omega arith)
+verdict-once (Refused r) Accepted e = absurd (let z : _≡_ {A = ℕ} 0 1 = cc in omega arith)
+verdict-once (Refused r) (Refused q) e = let n : numberOf r ≡ numberOf q = cc in ap Refused (same-number r q n)

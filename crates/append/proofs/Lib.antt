@@ -1,3 +1,4 @@
 pub mod Encodings
 pub mod Acceptance
 pub mod Answering
+pub mod Only

@@ -1,3 +1,4 @@
 pub mod Trials
 pub mod Walks
 pub mod Listings
+pub mod Only

@@ -2,9 +2,11 @@
 // parts of the lent region. `walk`, `key_of` and `value_of` are the public operations; the seeded
 // walk takes the mark's seed.
 ghost use mathlib.Core.Path.{_≡_};
+ghost use Prim.Native.Nat.{_+_};
+ghost use denote.Ref.{ptr};
 ghost use Rattle.entry.specs.Words.{markFrom, version1};
 ghost use Rattle.scan.specs.Walk.{said, walkOf};
-ghost use Rattle.scan.specs.Parts.{partOf};
+ghost use Rattle.scan.specs.Parts.{partOf, partStart};
 use answers::Refusal;
 use entry::Entry;
 
@@ -63,7 +65,8 @@ pub fn walk(region: &[u8], bound: usize, offset: usize) -> Walked
 
 // len bytes of the region from `at` on, or an empty part where they run past its end.
 fn part_of(region: &[u8], at: usize, len: usize) -> &[u8]
-    ensures { λ r. ⌜ now r ≡ partOf (now (region .entry)) at len ⌝ }
+    ensures bytes { λ r. ⌜ now r ≡ partOf (now (region .entry)) at len ⌝ }
+    ensures lent { λ r. ⌜ (ptr r .0 ≡ ptr (region .entry) .0) × (ptr r .1 ≡ ptr (region .entry) .1 + partStart (now (region .entry)) at len) ⌝ }
 {
     if region.len() < at {
         return &region[0..0];
@@ -74,9 +77,11 @@ fn part_of(region: &[u8], at: usize, len: usize) -> &[u8]
     &region[at..at + len]
 }
 
-// The key's own bytes in the region, empty where the places don't fit it.
+// The key's own bytes in the region, empty where the places don't fit it: `lent` says that the part
+// points into the caller's region, and where.
 pub fn key_of(region: &[u8], e: Entry) -> &[u8]
-    ensures { λ r. ⌜ now r ≡ partOf (now (region .entry)) (e .kplace) (e .klen) ⌝ }
+    ensures bytes { λ r. ⌜ now r ≡ partOf (now (region .entry)) (e .kplace) (e .klen) ⌝ }
+    ensures lent { λ r. ⌜ (ptr r .0 ≡ ptr (region .entry) .0) × (ptr r .1 ≡ ptr (region .entry) .1 + partStart (now (region .entry)) (e .kplace) (e .klen)) ⌝ }
 {
     let at = e.kplace;
     let len = e.klen;
@@ -85,7 +90,8 @@ pub fn key_of(region: &[u8], e: Entry) -> &[u8]
 
 // The value's own bytes in the region, empty for a tombstone and where the places don't fit it.
 pub fn value_of(region: &[u8], e: Entry) -> &[u8]
-    ensures { λ r. ⌜ now r ≡ partOf (now (region .entry)) (e .vplace) (e .vlen) ⌝ }
+    ensures bytes { λ r. ⌜ now r ≡ partOf (now (region .entry)) (e .vplace) (e .vlen) ⌝ }
+    ensures lent { λ r. ⌜ (ptr r .0 ≡ ptr (region .entry) .0) × (ptr r .1 ≡ ptr (region .entry) .1 + partStart (now (region .entry)) (e .vplace) (e .vlen)) ⌝ }
 {
     let at = e.vplace;
     let len = e.vlen;
