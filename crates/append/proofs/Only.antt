@@ -4,10 +4,7 @@ use Prim.Native.Nat.{ℕ}
 use mathlib.Core.Path.{_≡_, refl, sym, ap, _∙_}
 use mathlib.Core.List.{List, []}
 use native.Mathlib.Omega.{arith}
-
 use denote.Ref.{now}
-
-
 use Rattle.answers.specs.Numbers.{numberOf}
 use Rattle.answers.specs.Answers.{Said, accepted, refused}
 use Rattle.answers.specs.OneAnswer.{OneOutcome}

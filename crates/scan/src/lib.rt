@@ -64,7 +64,7 @@ pub fn walk(region: &[u8], bound: usize, offset: usize) -> Walked
 }
 
 // len bytes of the region from `at` on, or an empty part where they run past its end.
-fn part_of(region: &[u8], at: usize, len: usize) -> &[u8]
+pub fn part_of(region: &[u8], at: usize, len: usize) -> &[u8]
     ensures bytes { λ r. ⌜ now r ≡ partOf (now (region .entry)) at len ⌝ }
     ensures lent { λ r. ⌜ (ptr r .0 ≡ ptr (region .entry) .0) × (ptr r .1 ≡ ptr (region .entry) .1 + partStart (now (region .entry)) at len) ⌝ }
 {
@@ -75,6 +75,19 @@ fn part_of(region: &[u8], at: usize, len: usize) -> &[u8]
         return &region[0..0];
     }
     &region[at..at + len]
+}
+
+// Where that part begins in the region.
+pub fn part_start(region: &[u8], at: usize, len: usize) -> usize
+    ensures { λ r. ⌜ r ≡ partStart (now (region .entry)) at len ⌝ }
+{
+    if region.len() < at {
+        return 0;
+    }
+    if region.len() - at < len {
+        return 0;
+    }
+    at
 }
 
 // The key's own bytes in the region, empty where the places don't fit it: `lent` says that the part

@@ -1,0 +1,62 @@
+-- What an export answers and leaves behind: document 01's number, 0 for accepted, and the values of the answer in its out parameters.
+-- A refusal leaves every out parameter as it was, but for the place that goes with 10.
+-- Assumes nothing.
+use Prim.Native.Nat.{ℕ}
+use mathlib.Core.List.{List, [], _∷_}
+use mathlib.Core.Path.{_≡_}
+use mathlib.Core.Bool.{Bool}
+use Rattle.answers.specs.Answers.{Said, accepted, refused, afterwards}
+use Rattle.fields.specs.Runs.{over}
+use Rattle.entry.specs.declared.Entry.{Entry}
+use Rattle.entry.specs.Words.{version1}
+use Rattle.append.specs.Bytes.{Item, encoded}
+use Rattle.append.specs.Append.{appendOf}
+use Rattle.scan.specs.Walk.{Step, found, ended, walkOf}
+
+-- "Each returns its number"
+abbrev pub numberSaid : {A : Type 0} → Said A → ℕ
+numberSaid (accepted a) = 0
+numberSaid (refused n values) = n
+
+-- "(10 also its place)": the place that goes with the refusal, or what stood there
+abbrev pub placeOut : {A : Type 0} → Said A → ℕ → ℕ
+placeOut (accepted a) old = old
+placeOut (refused n []) old = old
+placeOut (refused n (p ∷ values)) old = p
+
+-- a single number of the answer
+abbrev pub valueOut : Said ℕ → ℕ → ℕ
+valueOut (accepted n) old = n
+valueOut (refused n values) old = old
+
+-- an entry as eight numbers, in the order of its struct
+abbrev pub eight : Entry → List ℕ
+eight e = e .offset ∷ e .kind ∷ e .ns ∷ e .klen ∷ e .vlen ∷ e .vplace ∷ e .kplace ∷ e .end ∷ []
+
+abbrev pub entryOut : Said Entry → List ℕ → List ℕ
+entryOut (accepted e) old = eight e
+entryOut (refused n values) old = old
+
+-- what the walk finds: the entry and 1, or the old entry and 0 at End
+abbrev pub walkedOut : Said Step → List ℕ → List ℕ
+walkedOut (accepted (found e)) old = eight e
+walkedOut (accepted ended) old = old
+walkedOut (refused n values) old = old
+
+abbrev pub foundOut : Said Step → ℕ → ℕ
+foundOut (accepted (found e)) old = 1
+foundOut (accepted ended) old = 0
+foundOut (refused n values) old = old
+
+-- both appends: the number, the region and the new used count
+pub record AppendOut (region : List ℕ) (used : ℕ) (allowed : Bool) (i : Item) (r : ℕ) (after : List ℕ) (old next : ℕ) : Type 0 where
+  pub says : r ≡ numberSaid (appendOf region used allowed i)
+  pub leaves : after ≡ afterwards (appendOf region used allowed i) region (over region used (encoded (version1 used) i))
+  pub tells : next ≡ valueOut (appendOf region used allowed i) old
+
+-- the walk: the number, the entry and whether there is one, and the place that goes with 10
+pub record WalkOut (region : List ℕ) (bound offset r : ℕ) (old entry : List ℕ) (oldFound found oldPlace place : ℕ) : Type 0 where
+  pub says : r ≡ numberSaid (walkOf version1 region bound offset)
+  pub tells : entry ≡ walkedOut (walkOf version1 region bound offset) old
+  pub finds : found ≡ foundOut (walkOf version1 region bound offset) oldFound
+  pub places : place ≡ placeOut (walkOf version1 region bound offset) oldPlace

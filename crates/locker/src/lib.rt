@@ -1,0 +1,220 @@
+// The C interface of the locker log: every public operation under a `locker_` name, for
+// include/locker_log.h. Numbers pass as themselves and slices as a pointer and a length; the values
+// of an answer go into out parameters. Each function answers document 01's number, 0 for accepted,
+// and on a refusal leaves every out parameter and every lent byte as it was, but for the place that
+// goes with 10.
+ghost use mathlib.Core.Path.{_≡_};
+ghost use mathlib.Core.Bool.{true};
+ghost use mathlib.Core.List.{[]};
+ghost use lib.ListN.{length};
+ghost use Rattle.answers.specs.Answers.{afterwards};
+ghost use Rattle.fields.specs.Runs.{over};
+ghost use Rattle.checksum.specs.Catalogue.{crc16, crcFrom};
+ghost use Rattle.header.specs.Header.{readOf as headerRead, writeOf, headerOf};
+ghost use Rattle.entry.specs.Words.{version1};
+ghost use Rattle.read.specs.Reading.{readOf};
+ghost use Rattle.append.specs.Bytes.{item};
+ghost use Rattle.append.specs.Append.{dataKind};
+ghost use Rattle.scan.specs.Parts.{partOf, partStart};
+ghost use Rattle.tail.specs.Tail.{usedOf, durableOf};
+ghost use Rattle.locker.specs.Outs.{numberSaid, placeOut, valueOut, eight, entryOut, AppendOut, WalkOut};
+use append::Appended;
+use entry::Entry;
+use header::HeaderRead;
+use read::Reading;
+use scan::Walked;
+use tail::DurableEnd;
+use tail::UsedBound;
+
+// The checksum of the bytes.
+#[no_mangle]
+pub extern "C" fn locker_hash(bytes: &[u8]) -> u16
+    ensures { λ r. ⌜ r ≡ crc16 (now (bytes .entry)) ⌝ }
+{
+    checksum::hash(bytes)
+}
+
+// The checksum's register after more bytes, from any register.
+#[no_mangle]
+pub extern "C" fn locker_update(state: u16, bytes: &[u8]) -> u16
+    ensures { λ r. ⌜ r ≡ crcFrom state (now (bytes .entry)) ⌝ }
+{
+    checksum::update(state, bytes)
+}
+
+#[no_mangle]
+pub extern "C" fn locker_read_header(header: &[u8], ordinal: &mut u64) -> u32
+    ensures { λ r. ⌜ (r ≡ numberSaid (headerRead (now (header .entry)))) × (now (ordinal .exit) ≡ valueOut (headerRead (now (header .entry))) (now (ordinal .entry))) ⌝ }
+{
+    let answer = header::read_header(header);
+    match answer {
+        HeaderRead::Ordinal(n) => {
+            *ordinal = n;
+            0
+        }
+        HeaderRead::Refused(refusal) => answers::number(refusal),
+    }
+}
+
+#[no_mangle]
+pub extern "C" fn locker_write_header(lent: &mut [u8], ordinal: u64) -> u32
+    ensures { λ r. ⌜ (r ≡ numberSaid (writeOf (now (lent .entry)))) × (now (lent .exit) ≡ afterwards (writeOf (now (lent .entry))) (now (lent .entry)) (over (now (lent .entry)) 0 (headerOf ordinal))) ⌝ }
+{
+    let verdict = header::write_header(lent, ordinal);
+    answers::verdict_number(verdict)
+}
+
+// An entry as eight numbers, in the order of its struct.
+fn eight(e: Entry) -> [u64; 8]
+    ensures { λ r. ⌜ r ≡ eight e ⌝ }
+{
+    let offset = e.offset as u64;
+    let klen = e.klen as u64;
+    let vlen = e.vlen as u64;
+    let vplace = e.vplace as u64;
+    let kplace = e.kplace as u64;
+    let end = e.end as u64;
+    [offset, e.kind, e.ns, klen, vlen, vplace, kplace, end]
+}
+
+#[no_mangle]
+pub extern "C" fn locker_read_at(region: &[u8], p: usize, hint: usize, entry: &mut [u64; 8]) -> u32
+    ensures { λ r. ⌜ (r ≡ numberSaid (readOf version1 (now (region .entry)) p hint)) × (now (entry .exit) ≡ entryOut (readOf version1 (now (region .entry)) p hint) (now (entry .entry))) ⌝ }
+{
+    let answer = read::read_at(region, p, hint);
+    match answer {
+        Reading::Data(e) => {
+            *entry = eight(e);
+            0
+        }
+        Reading::Refused(refusal) => answers::number(refusal),
+    }
+}
+
+#[no_mangle]
+pub extern "C" fn locker_append_data(
+    region: &mut [u8],
+    used: usize,
+    kind: u64,
+    ns: u64,
+    key: &[u8],
+    value: &[u8],
+    next: &mut u64,
+) -> u32
+    ensures { λ r. ⌜ AppendOut (now (region .entry)) used (dataKind kind) (item kind ns (now (key .entry)) (now (value .entry))) r (now (region .exit)) (now (next .entry)) (now (next .exit)) ⌝ }
+{
+    let answer = append::append_data(region, used, kind, ns, key, value);
+    match answer {
+        Appended::Used(n) => {
+            *next = n as u64;
+            0
+        }
+        Appended::Refused(refusal) => answers::number(refusal),
+    }
+}
+
+#[no_mangle]
+pub extern "C" fn locker_append_tombstone(
+    region: &mut [u8],
+    used: usize,
+    ns: u64,
+    key: &[u8],
+    next: &mut u64,
+) -> u32
+    ensures { λ r. ⌜ AppendOut (now (region .entry)) used true (item 2 ns (now (key .entry)) []) r (now (region .exit)) (now (next .entry)) (now (next .exit)) ⌝ }
+{
+    let answer = append::append_tombstone(region, used, ns, key);
+    match answer {
+        Appended::Used(n) => {
+            *next = n as u64;
+            0
+        }
+        Appended::Refused(refusal) => answers::number(refusal),
+    }
+}
+
+// The next verified entry: `found` is 1 and the entry is told, or `found` is 0 at End.
+#[no_mangle]
+pub extern "C" fn locker_walk(
+    region: &[u8],
+    bound: usize,
+    offset: usize,
+    entry: &mut [u64; 8],
+    found: &mut u64,
+    place: &mut u64,
+) -> u32
+    ensures { λ r. ⌜ WalkOut (now (region .entry)) bound offset r (now (entry .entry)) (now (entry .exit)) (now (found .entry)) (now (found .exit)) (now (place .entry)) (now (place .exit)) ⌝ }
+{
+    let answer = scan::walk(region, bound, offset);
+    match answer {
+        Walked::Found(e) => {
+            *entry = eight(e);
+            *found = 1;
+            0
+        }
+        Walked::End => {
+            *found = 0;
+            0
+        }
+        Walked::Refused(refusal) => answers::number(refusal),
+        Walked::UnknownAt(p) => {
+            *place = p as u64;
+            10
+        }
+    }
+}
+
+// Where `len` bytes from `at` on begin in the region and how many they are: `at` and `len`, or 0
+// and 0 where they run past its end. With an entry's kplace and klen it is its key, with its vplace
+// and vlen its value.
+#[no_mangle]
+pub extern "C" fn locker_part(
+    region: &[u8],
+    at: usize,
+    len: usize,
+    start: &mut u64,
+    count: &mut u64,
+)
+    ensures { λ _. ⌜ (now (start .exit) ≡ partStart (now (region .entry)) at len) × (now (count .exit) ≡ length (partOf (now (region .entry)) at len)) ⌝ }
+{
+    let part = scan::part_of(region, at, len);
+    *count = part.len() as u64;
+    *start = scan::part_start(region, at, len) as u64;
+}
+
+#[no_mangle]
+pub extern "C" fn locker_used_bound(region: &[u8], bound: &mut u64) -> u32
+    ensures { λ r. ⌜ (r ≡ numberSaid (usedOf (now (region .entry)))) × (now (bound .exit) ≡ valueOut (usedOf (now (region .entry))) (now (bound .entry))) ⌝ }
+{
+    let answer = tail::used_bound(region);
+    match answer {
+        UsedBound::Bound(n) => {
+            *bound = n as u64;
+            0
+        }
+        UsedBound::Refused(refusal) => answers::number(refusal),
+    }
+}
+
+#[no_mangle]
+pub extern "C" fn locker_durable_end(
+    region: &[u8],
+    bound: usize,
+    end: &mut u64,
+    place: &mut u64,
+) -> u32
+    ensures { λ r. ⌜ (r ≡ numberSaid (durableOf version1 (now (region .entry)) bound)) × (now (end .exit) ≡ valueOut (durableOf version1 (now (region .entry)) bound) (now (end .entry))) × (now (place .exit) ≡ placeOut (durableOf version1 (now (region .entry)) bound) (now (place .entry))) ⌝ }
+{
+    let answer = tail::durable_end(region, bound);
+    match answer {
+        DurableEnd::End(n) => {
+            *end = n as u64;
+            0
+        }
+        DurableEnd::Refused(refusal) => answers::number(refusal),
+        DurableEnd::UnknownAt(p) => {
+            *place = p as u64;
+            10
+        }
+    }
+}
