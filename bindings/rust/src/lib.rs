@@ -1,0 +1,269 @@
+//! The locker log in Rust's own manner: a safe interface to the proved library, with nothing but `core`.
+//!
+//! Every operation takes any bytes and any numbers. A refusal is an `Err` with document 01's number behind it
+//! ([`Refusal::number`]) and changes no byte.
+//!
+//! ```
+//! use locker_log::{append_data, Kind, Region};
+//!
+//! let mut bytes = [0u8; 64];
+//! let used = append_data(&mut bytes, 0, Kind::Insert, 1, b"A7", b"9").unwrap();
+//! assert_eq!(used, 16);
+//!
+//! let region = Region::new(&bytes);
+//! let bound = region.used_bound().unwrap();
+//! let last = region.listing(bound).last().unwrap().unwrap();
+//! assert_eq!((last.key(), last.value()), (&b"A7"[..], &b"9"[..]));
+//! assert_eq!(region.durable_end(bound), Ok(16));
+//! ```
+#![no_std]
+#![warn(missing_docs)]
+
+mod refusal;
+mod sys;
+
+pub use refusal::{Refusal, WalkError};
+
+use sys::RawEntry;
+
+/// The length of a file's header.
+pub const HEADER_LENGTH: usize = 4096;
+
+/// An entry's type.
+#[derive(Clone, Copy, Debug, PartialEq, Eq, Hash)]
+pub enum Kind {
+    /// A first value for a key.
+    Insert,
+    /// A later value for a key.
+    Update,
+    /// The key is removed.
+    Tombstone,
+}
+
+impl Kind {
+    fn from_number(kind: u64) -> Kind {
+        match kind {
+            0 => Kind::Insert,
+            1 => Kind::Update,
+            _ => Kind::Tombstone,
+        }
+    }
+
+    fn number(self) -> u64 {
+        match self {
+            Kind::Insert => 0,
+            Kind::Update => 1,
+            Kind::Tombstone => 2,
+        }
+    }
+}
+
+/// The CRC-16/IBM-3740 of the bytes.
+pub fn hash(bytes: &[u8]) -> u16 {
+    // SAFETY: the pointer and the length are those of one slice.
+    unsafe { sys::locker_hash(bytes.as_ptr(), bytes.len()) }
+}
+
+/// The checksum's register after more bytes, from any register.
+pub fn update(state: u16, bytes: &[u8]) -> u16 {
+    // SAFETY: the pointer and the length are those of one slice.
+    unsafe { sys::locker_update(state, bytes.as_ptr(), bytes.len()) }
+}
+
+/// The ordinal of the file that begins with these bytes. Refuses 1, 2.
+pub fn read_header(header: &[u8]) -> Result<u64, Refusal> {
+    let mut ordinal = 0;
+    // SAFETY: one slice, and a number of our own.
+    let number = unsafe { sys::locker_read_header(header.as_ptr(), header.len(), &mut ordinal) };
+    Refusal::check(number).map(|()| ordinal)
+}
+
+/// Fills the first 4,096 bytes and touches no more. Refuses 1.
+pub fn write_header(lent: &mut [u8], ordinal: u64) -> Result<(), Refusal> {
+    // SAFETY: one slice, lent for writing.
+    Refusal::check(unsafe { sys::locker_write_header(lent.as_mut_ptr(), lent.len(), ordinal) })
+}
+
+/// Writes a data entry at the used count and answers the new one. Refuses 3, 5, 9 (a tombstone), 17, 11, 12, 13.
+pub fn append_data(
+    region: &mut [u8],
+    used: usize,
+    kind: Kind,
+    namespace: u64,
+    key: &[u8],
+    value: &[u8],
+) -> Result<usize, Refusal> {
+    let mut next = 0;
+    // SAFETY: three slices, of which the one that is written to overlaps no other, and a number of our own.
+    let number = unsafe {
+        sys::locker_append_data(
+            region.as_mut_ptr(),
+            region.len(),
+            used,
+            kind.number(),
+            namespace,
+            key.as_ptr(),
+            key.len(),
+            value.as_ptr(),
+            value.len(),
+            &mut next,
+        )
+    };
+    Refusal::check(number).map(|()| next as usize)
+}
+
+/// Writes a tombstone at the used count and answers the new one. Refuses 3, 5, 17, 11, 13.
+pub fn append_tombstone(region: &mut [u8], used: usize, namespace: u64, key: &[u8]) -> Result<usize, Refusal> {
+    let mut next = 0;
+    // SAFETY: two slices, of which the one that is written to overlaps no other, and a number of our own.
+    let number = unsafe {
+        sys::locker_append_tombstone(
+            region.as_mut_ptr(),
+            region.len(),
+            used,
+            namespace,
+            key.as_ptr(),
+            key.len(),
+            &mut next,
+        )
+    };
+    Refusal::check(number).map(|()| next as usize)
+}
+
+/// A data file without its header.
+#[derive(Clone, Copy, Debug)]
+pub struct Region<'a> {
+    bytes: &'a [u8],
+}
+
+/// An entry of a region, with its own bytes at hand.
+#[derive(Clone, Copy, Debug)]
+pub struct Entry<'a> {
+    region: Region<'a>,
+    at: RawEntry,
+}
+
+/// The entries of a region from offset 0 on, each with the region's lifetime; a refusal ends it.
+#[derive(Clone, Debug)]
+pub struct Listing<'a> {
+    region: Region<'a>,
+    bound: usize,
+    next: usize,
+    over: bool,
+}
+
+impl<'a> Region<'a> {
+    /// These bytes, from the first behind the header on.
+    pub fn new(bytes: &'a [u8]) -> Region<'a> {
+        Region { bytes }
+    }
+
+    /// One past the last nonzero byte, rounded up to a line, but at most the length. Refuses 3.
+    pub fn used_bound(self) -> Result<usize, Refusal> {
+        let mut bound = 0;
+        // SAFETY: one slice, and a number of our own.
+        let number = unsafe { sys::locker_used_bound(self.bytes.as_ptr(), self.bytes.len(), &mut bound) };
+        Refusal::check(number).map(|()| bound as usize)
+    }
+
+    /// The last verified entry's end rounded up to a line, or 0. Refuses 3, 4, then 10 with its place.
+    pub fn durable_end(self, bound: usize) -> Result<usize, WalkError> {
+        let (mut end, mut place) = (0, 0);
+        // SAFETY: one slice, and two numbers of our own.
+        let number =
+            unsafe { sys::locker_durable_end(self.bytes.as_ptr(), self.bytes.len(), bound, &mut end, &mut place) };
+        WalkError::check(number, place).map(|()| end as usize)
+    }
+
+    /// The next verified entry from `offset` on, up to `bound`. Refuses 3, 4, then 10 with its place.
+    pub fn walk(self, bound: usize, offset: usize) -> Result<Option<Entry<'a>>, WalkError> {
+        let mut at = RawEntry::default();
+        let (mut found, mut place) = (0, 0);
+        // SAFETY: one slice, and an entry and two numbers of our own.
+        let number = unsafe {
+            sys::locker_walk(self.bytes.as_ptr(), self.bytes.len(), bound, offset, &mut at, &mut found, &mut place)
+        };
+        WalkError::check(number, place)?;
+        Ok((found == 1).then_some(Entry { region: self, at }))
+    }
+
+    /// The data entry at a place, of which at most `hint` bytes are looked at, reported as an insert. Refuses 3, 5, then
+    /// 6, 7, 6, 8, 9.
+    pub fn read_at(self, place: usize, hint: usize) -> Result<Entry<'a>, Refusal> {
+        let mut at = RawEntry::default();
+        // SAFETY: one slice, and an entry of our own.
+        let number = unsafe { sys::locker_read_at(self.bytes.as_ptr(), self.bytes.len(), place, hint, &mut at) };
+        Refusal::check(number).map(|()| Entry { region: self, at })
+    }
+
+    /// The entries up to `bound`, in order.
+    pub fn listing(self, bound: usize) -> Listing<'a> {
+        Listing { region: self, bound, next: 0, over: false }
+    }
+
+    fn part(self, at: u64, len: u64) -> &'a [u8] {
+        let (mut start, mut count) = (0, 0);
+        // SAFETY: one slice, and two numbers of our own.
+        unsafe {
+            sys::locker_part(
+                self.bytes.as_ptr(),
+                self.bytes.len(),
+                at as usize,
+                len as usize,
+                &mut start,
+                &mut count,
+            )
+        }
+        &self.bytes[start as usize..(start + count) as usize]
+    }
+}
+
+impl<'a> Entry<'a> {
+    /// The line that it starts on.
+    pub fn offset(&self) -> usize {
+        self.at.offset as usize
+    }
+
+    /// Its type.
+    pub fn kind(&self) -> Kind {
+        Kind::from_number(self.at.kind)
+    }
+
+    /// Its namespace, 0 to 63.
+    pub fn namespace(&self) -> u64 {
+        self.at.ns
+    }
+
+    /// Its key, the region's own bytes.
+    pub fn key(&self) -> &'a [u8] {
+        self.region.part(self.at.kplace, self.at.klen)
+    }
+
+    /// Its value, the region's own bytes; empty for a tombstone.
+    pub fn value(&self) -> &'a [u8] {
+        self.region.part(self.at.vplace, self.at.vlen)
+    }
+
+    /// One past its checksum, not rounded up.
+    pub fn end(&self) -> usize {
+        self.at.end as usize
+    }
+}
+
+impl<'a> Iterator for Listing<'a> {
+    type Item = Result<Entry<'a>, WalkError>;
+
+    fn next(&mut self) -> Option<Self::Item> {
+        if self.over {
+            return None;
+        }
+        let walked = self.region.walk(self.bound, self.next).transpose();
+        match &walked {
+            Some(Ok(entry)) => self.next = entry.end(),
+            Some(Err(_)) | None => self.over = true,
+        }
+        walked
+    }
+}
+
+impl core::iter::FusedIterator for Listing<'_> {}
