@@ -6,10 +6,17 @@ use mathlib.Core.List.{List, [], _∷_, _++_}
 use mathlib.Core.Bool.{Bool, true, false, not, _&&_}
 use lib.Dec.{eqb}
 use lib.ListN.{replicate}
+use lib.IntN.{pos}
+use Rattle.answers.specs.Answers.{Said, accepted, refused}
 use Rattle.fields.specs.Numbers.{field, bytesOf, aligned}
 use Rattle.entry.specs.Words.{version1, wordOf, wordMark}
 use Rattle.entry.specs.Layout.{lengthOf, verifies}
 use Rattle.tail.specs.Tail.{usedBound}
+use Rattle.tracker.specs.State.{State, freshState, slotOf}
+use Rattle.tracker.specs.Reserving.{Granted, reserveOf, reserved}
+use Rattle.tracker.specs.Recording.{recordOf, recorded}
+use Rattle.tracker.specs.Finishing.{matches, completed, isZero}
+use Rattle.tracker.specs.Checkpoints.{reachedOf}
 
 abbrev pub same : List ℕ → List ℕ → Bool
 same [] [] = true
@@ -32,6 +39,27 @@ only33 n = replicate 33 0 ++ (1 ∷ replicate (n - 34) 0)
 -- the line at offset 173,966,336 and what follows it: marks are counted from there
 abbrev fromThere : ℕ → ℕ
 fromThere p = version1 (173966336 + p)
+
+-- the tracker's trial, with 5 for the delta that is recorded: after two reserves, after the record, and after the completion
+abbrev oneOpen : State
+oneOpen = reserved freshState 0 7 0
+
+abbrev twoOpen : State
+twoOpen = reserved oneOpen 1 7 16
+
+abbrev recordedThird : State
+recordedThird = recorded twoOpen 0 (pos 5)
+
+abbrev completedFirst : State
+completedFirst = completed recordedThird 0 1 (pos 1)
+
+abbrev numberGranted : Said Granted → ℕ
+numberGranted (accepted g) = g .number
+numberGranted (refused n values) = 0
+
+abbrev numberTaken : Said ℕ → ℕ
+numberTaken (accepted n) = n
+numberTaken (refused n values) = 0
 
 unfoldable pub trials : List Bool
 trials =
@@ -64,4 +92,11 @@ trials =
     ∷ eqb (version1 173966336) 0
     ∷ eqb (wordMark (field 4 (replicate 16 0) 0)) (fromThere 0)
     ∷ not (verifies fromThere (replicate 16 0) 0)
+    -- Shard 0 reserves number 1, shard 1 reserves 2, shard 0 records 3, then completes 1 with delta 1: limit 2, sum 0.
+    ∷ eqb (numberGranted (reserveOf freshState 0 0 4096 false 16)) 1
+    ∷ eqb (numberGranted (reserveOf oneOpen 1 16 4096 false 16)) 2
+    ∷ eqb (numberTaken (recordOf twoOpen 0)) 3
+    ∷ matches (slotOf recordedThird 0) 1
+    ∷ eqb (reachedOf completedFirst 7 32 .limit) 2
+    ∷ isZero (reachedOf completedFirst 7 32 .sum)
     ∷ []

@@ -1,0 +1,15 @@
+pub mod Runs
+pub mod Ints
+pub mod Views
+pub mod Sounds
+pub mod Fronts
+pub mod Slides
+pub mod Leasts
+pub mod Outcomes
+pub mod Reserves
+pub mod Records
+pub mod Finishes
+pub mod Totals
+pub mod Sayings
+pub mod Only
+pub mod Kept

@@ -1,0 +1,12 @@
+pub mod State
+pub mod Sound
+pub mod Outcome
+pub mod Reserving
+pub mod Recording
+pub mod Finishing
+pub mod Least
+pub mod Sums
+pub mod Checkpoints
+pub mod Draining
+pub mod Clearing
+pub mod Inner
