@@ -1,0 +1,168 @@
+// Document 01, "The lister": reads a card from standard input, header and data together, and writes
+// a line for each entry up to the used bound, then where the last of them ends.
+//
+// The heading is written once the header is accepted, so that after 1, 2 or 3 the `refused` line is
+// the only one. A card with a header and no entry has the heading and `end 0`.
+ghost use mathlib.Core.Path.{_≡_};
+ghost use Prim.Native.Nat.{_≤_};
+ghost use lib.ListN.{length};
+ghost use Rattle.answers.specs.Limits.{largestRegion};
+ghost use Rattle.entry.specs.Words.{version1};
+ghost use Rattle.tail.specs.Tail.{saidDurable, durableOf};
+use answers::Refusal;
+use entry::Entry;
+use header::HeaderRead;
+use libc::STDERR_FILENO;
+use libc::STDIN_FILENO;
+use libc::STDOUT_FILENO;
+use scan::Walked;
+use tail::DurableEnd;
+use tail::UsedBound;
+
+fn write(text: &[u8]) {
+    io::write_all(STDOUT_FILENO, text);
+}
+
+fn write_number(n: usize) {
+    io::print_decimal(STDOUT_FILENO, n as u64);
+}
+
+fn write_refusal(refusal: Refusal) {
+    write(b"refused ");
+    io::print_decimal(STDOUT_FILENO, answers::number(refusal) as u64);
+}
+
+// The types that a verified entry has: 0, 1 and 2.
+fn write_kind(kind: u64) {
+    match kind {
+        0 => write(b" insert "),
+        1 => write(b" update "),
+        _ => write(b" tombstone "),
+    }
+}
+
+fn write_entry(e: Entry) {
+    write_number(e.offset);
+    write_kind(e.kind);
+    io::print_decimal(STDOUT_FILENO, e.ns);
+    write(b" ");
+    write_number(e.klen);
+    write(b" ");
+    write_number(e.vlen);
+    write(b"\n");
+}
+
+// The last line.
+fn write_end(end: DurableEnd) {
+    match end {
+        DurableEnd::End(n) => {
+            write(b"end ");
+            write_number(n);
+        }
+        DurableEnd::Refused(refusal) => {
+            write_refusal(refusal);
+        }
+        DurableEnd::UnknownAt(p) => {
+            write_refusal(Refusal::UnknownType);
+            write(b" at ");
+            write_number(p);
+        }
+    }
+    write(b"\n");
+}
+
+// A line for each entry. One walk serves for the lines and for the end: what it answers is proved to
+// be what `tail::durable_end` answers, and each turn starts at a later offset, so the loop ends.
+fn list_entries(region: &[u8], bound: usize) -> DurableEnd
+    requires { ⌜ (length (now region) ≤ largestRegion) × (bound ≤ length (now region)) ⌝ }
+    ensures { λ r. ⌜ saidDurable r ≡ durableOf version1 (now (region .entry)) bound ⌝ }
+{
+    let mut from = 0;
+    loop {
+        let walked = scan::walk(region, bound, from);
+        match walked {
+            Walked::Found(e) => {
+                write_entry(e);
+                from = e.end;
+            }
+            Walked::End => {
+                return DurableEnd::End(fields::align_up(from));
+            }
+            Walked::Refused(refusal) => {
+                return DurableEnd::Refused(refusal);
+            }
+            Walked::UnknownAt(p) => {
+                return DurableEnd::UnknownAt(p);
+            }
+        }
+    }
+}
+
+fn list_data(region: &[u8])
+    requires { ⌜ length (now region) ≤ 65536 ⌝ }
+{
+    let used = tail::used_bound(region);
+    match used {
+        UsedBound::Bound(bound) => {
+            write(b"offset type ns klen vlen\n");
+            write_end(list_entries(region, bound));
+        }
+        UsedBound::Refused(refusal) => {
+            write_end(DurableEnd::Refused(refusal));
+        }
+    }
+}
+
+fn list_card(card: &[u8])
+    requires { ⌜ length (now card) ≤ 65536 ⌝ }
+{
+    let read = header::read_header(card);
+    match read {
+        HeaderRead::Ordinal(_) => list_data(&card[header::HEADER_LENGTH..]),
+        HeaderRead::Refused(refusal) => write_end(DurableEnd::Refused(refusal)),
+    }
+}
+
+// What one read more shows, once the card is read.
+enum Rest {
+    Nothing,
+    More,
+    Unreadable,
+}
+
+fn rest_of_input() -> Rest {
+    let mut one = [0u8; 1];
+    let got = libc::read(STDIN_FILENO, &mut one);
+    if got < 0 {
+        return Rest::Unreadable;
+    }
+    if got == 0 {
+        return Rest::Nothing;
+    }
+    Rest::More
+}
+
+// A card that was not read to its end is not listed, since its last entries would be missing without
+// a word. Standard output has only what document 01 names, so this goes to standard error.
+fn write_unreadable() {
+    io::write_all(STDERR_FILENO, b"lister: standard input can't be read\n");
+}
+
+// The buffer holds the 65,536 bytes that a card may have.
+fn main() {
+    let mut card = io::large_buffer();
+    let n = io::read_full(STDIN_FILENO, &mut card);
+    let rest = rest_of_input();
+    match rest {
+        Rest::Nothing => list_card(&card[..n]),
+        Rest::More => {
+            if n < 65536 {
+                // a read failed before, and this one did not
+                write_unreadable();
+            } else {
+                write_end(DurableEnd::Refused(Refusal::RegionTooLarge));
+            }
+        }
+        Rest::Unreadable => write_unreadable(),
+    }
+}

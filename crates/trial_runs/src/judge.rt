@@ -1,0 +1,197 @@
+// A trial's line: what was asked, what was answered, and whether document 01 says so. What was asked
+// is written from the very arguments of the call.
+use answers::Refusal;
+use entry::Entry;
+use libc::STDOUT_FILENO;
+
+// Any answer but an entry.
+pub enum Said {
+    Accepted,
+    Number(u64),
+    End,
+    Refused(u64),
+    // Refusal 10 with its place.
+    UnknownAt(u64),
+    // A refusal that did not leave the lent bytes as found: no trial expects it.
+    RefusedChanged(u64),
+    Yes,
+    No,
+}
+
+pub fn write(text: &[u8]) {
+    io::write_all(STDOUT_FILENO, text);
+}
+
+// A number and the words before it.
+pub fn number(before: &[u8], n: u64) {
+    write(before);
+    io::print_decimal(STDOUT_FILENO, n);
+}
+
+pub fn refused(refusal: Refusal) -> Said {
+    Said::Refused(answers::number(refusal) as u64)
+}
+
+// A refusal of an operation that writes: it has to leave the lent bytes as found.
+pub fn refused_leaving(refusal: Refusal, as_found: bool) -> Said {
+    if as_found {
+        return refused(refusal);
+    }
+    Said::RefusedChanged(answers::number(refusal) as u64)
+}
+
+fn write_said(said: Said) {
+    match said {
+        Said::Accepted => write(b"accepted"),
+        Said::Number(n) => number(b"", n),
+        Said::End => write(b"End"),
+        Said::Refused(n) => number(b"refused ", n),
+        Said::UnknownAt(p) => number(b"refused 10 at ", p),
+        Said::RefusedChanged(n) => number(b"bytes changed, and refused ", n),
+        Said::Yes => write(b"yes"),
+        Said::No => write(b"no"),
+    }
+}
+
+// Which case an answer is, and its number: together they tell any two answers apart.
+fn case_of(said: Said) -> u64 {
+    match said {
+        Said::Accepted => 0,
+        Said::Number(_) => 1,
+        Said::End => 2,
+        Said::Refused(_) => 3,
+        Said::UnknownAt(_) => 4,
+        Said::RefusedChanged(_) => 5,
+        Said::Yes => 6,
+        Said::No => 7,
+    }
+}
+
+fn number_of(said: Said) -> u64 {
+    match said {
+        Said::Number(n) => n,
+        Said::Refused(n) => n,
+        Said::UnknownAt(p) => p,
+        Said::RefusedChanged(n) => n,
+        _ => 0,
+    }
+}
+
+fn same_said(a: Said, b: Said) -> bool {
+    if case_of(a) != case_of(b) {
+        return false;
+    }
+    number_of(a) == number_of(b)
+}
+
+// The end of a trial's line.
+pub fn answer(answered: Said, expected: Said) {
+    write(b": ");
+    write_said(answered);
+    if same_said(answered, expected) {
+        write(b", as document 01\n");
+    } else {
+        write(b", WRONG: ");
+        write_said(expected);
+        write(b"\n");
+    }
+}
+
+// A question whose answer is to be yes.
+pub fn holds(is_so: bool) {
+    if is_so {
+        answer(Said::Yes, Said::Yes);
+    } else {
+        answer(Said::No, Said::Yes);
+    }
+}
+
+// The bytes of a key or a value, which are text here.
+pub fn bytes(answered: &[u8], expected: &[u8]) {
+    write(b": \"");
+    write(answered);
+    if check::same(answered, expected) {
+        write(b"\", as document 01\n");
+    } else {
+        write(b"\", WRONG: \"");
+        write(expected);
+        write(b"\"\n");
+    }
+}
+
+fn write_kind(kind: u64) {
+    match kind {
+        0 => write(b"insert"),
+        1 => write(b"update"),
+        2 => write(b"tombstone"),
+        _ => write(b"unknown type"),
+    }
+}
+
+fn write_entry(e: Entry) {
+    write_kind(e.kind);
+    number(b" at ", e.offset as u64);
+    number(b", ns ", e.ns);
+    number(b", value ", e.vlen as u64);
+    number(b" at ", e.vplace as u64);
+    number(b", key ", e.klen as u64);
+    number(b" at ", e.kplace as u64);
+    number(b", end ", e.end as u64);
+}
+
+fn same_entry(a: Entry, b: Entry) -> bool {
+    if a.offset != b.offset {
+        return false;
+    }
+    if a.kind != b.kind {
+        return false;
+    }
+    if a.ns != b.ns {
+        return false;
+    }
+    if a.klen != b.klen {
+        return false;
+    }
+    if a.vlen != b.vlen {
+        return false;
+    }
+    if a.vplace != b.vplace {
+        return false;
+    }
+    if a.kplace != b.kplace {
+        return false;
+    }
+    a.end == b.end
+}
+
+pub fn found(answered: Entry, expected: Entry) {
+    write(b": ");
+    write_entry(answered);
+    if same_entry(answered, expected) {
+        write(b", as document 01\n");
+    } else {
+        write(b", WRONG: ");
+        write_entry(expected);
+        write(b"\n");
+    }
+}
+
+// An answer that is none where an entry was expected, or the other way round.
+pub fn another_kind() {
+    write(b": WRONG: another kind of answer\n");
+}
+
+// The first n bytes of a run, or none where it is shorter.
+pub fn start_of(run: &[u8], n: usize) -> &[u8] {
+    if n <= run.len() {
+        return &run[0..n];
+    }
+    &run[0..0]
+}
+
+// One byte of a region changed, if the region has it.
+pub fn put(region: &mut [u8], at: usize, byte: u8) {
+    if at < region.len() {
+        region[at] = byte;
+    }
+}

@@ -1,0 +1,55 @@
+"""Bytes on a card, from document 01's rules alone: what the samples and the tests are made with.
+
+Nothing here calls the project's own code, and the checksum is Python's: `binascii.crc_hqx` started with 0xffff is
+CRC-16/IBM-3740. So a file made here is an independent check of the programs that read it.
+"""
+import binascii
+
+LINE = 16
+HEADER_LENGTH = 4096
+SIGNATURE = bytes.fromhex("4C4F434B44415431")
+INSERT, UPDATE, TOMBSTONE, UNKNOWN = 0, 1, 2, 3
+
+
+def number(value, width):
+    return value.to_bytes(width, "little")
+
+
+def checksum(data):
+    return binascii.crc_hqx(data, 0xFFFF)
+
+
+def aligned(n):
+    return (n + LINE - 1) // LINE * LINE
+
+
+def mark(offset):
+    return (offset // LINE + 0x5A17C0) % 2**24
+
+
+def header(ordinal, version=1, signature=SIGNATURE):
+    """signature 8, version 4, zero 4, ordinal 8, zero 4,072"""
+    return signature + number(version, 4) + bytes(4) + number(ordinal, 8) + bytes(4072)
+
+
+def entry(offset, kind, namespace, key, value=b""):
+    """One entry as it stands at `offset`, without its filling. A tombstone has no value and no value length."""
+    word = number(mark(offset) + (namespace << 24) + (kind << 30), 4)
+    if kind == TOMBSTONE:
+        covered = word + number(len(key), 2) + key
+    else:
+        covered = word + number(len(key), 2) + number(len(value), 2) + value + key
+    return covered + number(checksum(covered), 2)
+
+
+def filled(data):
+    """Filled up to the next line with 0xff, as the writer does."""
+    return data + b"\xff" * (aligned(len(data)) - len(data))
+
+
+def region(*entries):
+    """Entries one behind the other from offset 0 on, each given as (kind, namespace, key, value)."""
+    data = b""
+    for kind, namespace, key, value in entries:
+        data += filled(entry(len(data), kind, namespace, key, value))
+    return data
