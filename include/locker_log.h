@@ -137,6 +137,20 @@ uint32_t locker_used_bound(const uint8_t *region, size_t length, uint64_t *bound
 /* The last verified entry's end rounded up to a line, or 0. Refuses 3, 4, then 10 with its *place. */
 uint32_t locker_durable_end(const uint8_t *region, size_t length, size_t bound, uint64_t *end, uint64_t *place);
 
+/* ---- replay */
+
+/* Whether a recovered data entry of these lengths is accepted for replay under a configured maximum region size. Refuses
+ * 3, 11, 12, 13. */
+uint32_t locker_replay_data(size_t klen, size_t vlen, size_t maximum);
+
+/* The same for a tombstone. Refuses 3, 11, 13. */
+uint32_t locker_replay_tombstone(size_t klen, size_t maximum);
+
+/* The file at which replay begins, by its place in the list as given: the first with an ordinal at or above the
+ * cursor's, else the last. *found is 1 and *place tells it; or *found is 0 for an empty list, and *place stays. Refuses
+ * 18. */
+uint32_t locker_start_file(const uint64_t *ordinals, size_t count, uint64_t cursor, uint64_t *place, uint64_t *found);
+
 #ifdef __cplusplus
 }
 #endif

@@ -130,6 +130,27 @@ pub fn append_tombstone(region: &mut [u8], used: usize, namespace: u64, key: &[u
     Refusal::check(number).map(|()| next as usize)
 }
 
+/// Whether a recovered entry of these lengths is accepted for replay under a configured maximum region size: a data entry,
+/// or a tombstone, whose value length isn't looked at. Refuses 3, 11, 12, 13.
+pub fn check_replay(kind: Kind, klen: usize, vlen: usize, maximum: usize) -> Result<(), Refusal> {
+    // SAFETY: numbers alone.
+    Refusal::check(unsafe {
+        match kind {
+            Kind::Insert | Kind::Update => sys::locker_replay_data(klen, vlen, maximum),
+            Kind::Tombstone => sys::locker_replay_tombstone(klen, maximum),
+        }
+    })
+}
+
+/// The place in the list, as given, of the file at which replay begins; `None` for an empty list. Refuses 18.
+pub fn start_file(ordinals: &[u64], cursor: u64) -> Result<Option<usize>, Refusal> {
+    let (mut place, mut found) = (0, 0);
+    // SAFETY: one slice, and two numbers of our own.
+    let number =
+        unsafe { sys::locker_start_file(ordinals.as_ptr(), ordinals.len(), cursor, &mut place, &mut found) };
+    Refusal::check(number).map(|()| (found == 1).then_some(place as usize))
+}
+
 /// A data file without its header.
 #[derive(Clone, Copy, Debug)]
 pub struct Region<'a> {

@@ -67,4 +67,13 @@ extern "C" {
     pub fn locker_part(region: *const u8, length: usize, at: usize, len: usize, start: *mut u64, count: *mut u64);
     pub fn locker_used_bound(region: *const u8, length: usize, bound: *mut u64) -> u32;
     pub fn locker_durable_end(region: *const u8, length: usize, bound: usize, end: *mut u64, place: *mut u64) -> u32;
+    pub fn locker_replay_data(klen: usize, vlen: usize, maximum: usize) -> u32;
+    pub fn locker_replay_tombstone(klen: usize, maximum: usize) -> u32;
+    pub fn locker_start_file(
+        ordinals: *const u64,
+        count: usize,
+        cursor: u64,
+        place: *mut u64,
+        found: *mut u64,
+    ) -> u32;
 }

@@ -11,6 +11,7 @@ use Rattle.entry.specs.declared.Entry.{Entry}
 use Rattle.entry.specs.Words.{version1}
 use Rattle.append.specs.Bytes.{Item, encoded}
 use Rattle.append.specs.Append.{appendOf}
+use Rattle.replay.specs.Start.{Started, file, nothing}
 use Rattle.scan.specs.Walk.{Step, found, ended, walkOf}
 
 -- "Each returns its number"
@@ -47,6 +48,17 @@ abbrev pub foundOut : Said Step → ℕ → ℕ
 foundOut (accepted (found e)) old = 1
 foundOut (accepted ended) old = 0
 foundOut (refused n values) old = old
+
+-- the start file's place and 1, or the old place and 0 where there is none
+abbrev pub startOut : Said Started → ℕ → ℕ
+startOut (accepted (file place)) old = place
+startOut (accepted nothing) old = old
+startOut (refused n values) old = old
+
+abbrev pub startFound : Said Started → ℕ → ℕ
+startFound (accepted (file place)) old = 1
+startFound (accepted nothing) old = 0
+startFound (refused n values) old = old
 
 -- both appends: the number, the region and the new used count
 pub record AppendOut (region : List ℕ) (used : ℕ) (allowed : Bool) (i : Item) (r : ℕ) (after : List ℕ) (old next : ℕ) : Type 0 where

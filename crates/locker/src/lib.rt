@@ -17,11 +17,14 @@ ghost use Rattle.append.specs.Bytes.{item};
 ghost use Rattle.append.specs.Append.{dataKind};
 ghost use Rattle.scan.specs.Parts.{partOf, partStart};
 ghost use Rattle.tail.specs.Tail.{usedOf, durableOf};
-ghost use Rattle.locker.specs.Outs.{numberSaid, placeOut, valueOut, eight, entryOut, AppendOut, WalkOut};
+ghost use Rattle.replay.specs.Limits.{dataLimits, tombstoneLimits};
+ghost use Rattle.replay.specs.Start.{startOf};
+ghost use Rattle.locker.specs.Outs.{startOut, startFound, numberSaid, placeOut, valueOut, eight, entryOut, AppendOut, WalkOut};
 use append::Appended;
 use entry::Entry;
 use header::HeaderRead;
 use read::Reading;
+use replay::StartAnswer;
 use scan::Walked;
 use tail::DurableEnd;
 use tail::UsedBound;
@@ -216,5 +219,49 @@ pub extern "C" fn locker_durable_end(
             *place = p as u64;
             10
         }
+    }
+}
+
+// The replay limits of a data entry: 0 where it is accepted.
+#[no_mangle]
+pub extern "C" fn locker_replay_data(klen: usize, vlen: usize, maximum: usize) -> u32
+    ensures { λ r. ⌜ r ≡ dataLimits klen vlen maximum ⌝ }
+{
+    let verdict = replay::check_data(klen, vlen, maximum);
+    answers::verdict_number(verdict)
+}
+
+// The replay limits of a tombstone: 0 where it is accepted.
+#[no_mangle]
+pub extern "C" fn locker_replay_tombstone(klen: usize, maximum: usize) -> u32
+    ensures { λ r. ⌜ r ≡ tombstoneLimits klen maximum ⌝ }
+{
+    let verdict = replay::check_tombstone(klen, maximum);
+    answers::verdict_number(verdict)
+}
+
+// The file at which replay begins: `found` is 1 and the place is told, or `found` is 0 for an empty
+// list.
+#[no_mangle]
+pub extern "C" fn locker_start_file(
+    ordinals: &[u64],
+    cursor: u64,
+    place: &mut u64,
+    found: &mut u64,
+) -> u32
+    ensures { λ r. ⌜ (r ≡ numberSaid (startOf (now (ordinals .entry)) cursor)) × (now (place .exit) ≡ startOut (startOf (now (ordinals .entry)) cursor) (now (place .entry))) × (now (found .exit) ≡ startFound (startOf (now (ordinals .entry)) cursor) (now (found .entry))) ⌝ }
+{
+    let answer = replay::start_file(ordinals, cursor);
+    match answer {
+        StartAnswer::File { place: at } => {
+            *place = at as u64;
+            *found = 1;
+            0
+        }
+        StartAnswer::Nothing => {
+            *found = 0;
+            0
+        }
+        StartAnswer::Refused(refusal) => answers::number(refusal),
     }
 }

@@ -15,6 +15,7 @@ use Rattle.tracker.specs.declared.CheckpointAnswer.{CheckpointAnswer}
 use Rattle.tracker.specs.declared.AfterDrain.{AfterDrain}
 use Rattle.tracker.specs.declared.AfterClear.{AfterClear}
 use Rattle.tracker.specs.State.{State, view, freshState}
+use Rattle.tracker.specs.Sound.{sound}
 use Rattle.tracker.specs.Outcome.{Met}
 use Rattle.tracker.specs.Reserving.{reserveOf, saidReserve, ReserveMet}
 use Rattle.tracker.specs.Recording.{recordOf, saidRecord, RecordMet}
@@ -41,6 +42,9 @@ same-by says one asked t new x y u v a b = record {
 
 pub fresh-only : (u v : Tracker) → view u ≡ freshState → view v ≡ freshState → view u ≡ view v
 fresh-only u v a b = a ∙ sym b
+
+pub is-sound-only : (t : Tracker) (a b : Bool) → a ≡ sound (view t) → b ≡ sound (view t) → a ≡ b
+is-sound-only t a b p q = p ∙ sym q
 
 module _ (t : Tracker) where
   pub reserve-only : (shard ordinal used capacity : ℕ) (sealed : Bool) (len : ℕ) (r q : AfterReserve)

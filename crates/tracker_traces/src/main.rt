@@ -570,7 +570,7 @@ fn data(klen: u64, vlen: u64, maximum: u64) {
     say(b", maximum ");
     number(maximum);
     say(b": ");
-    limits(replay::check_data(klen, vlen, maximum));
+    limits(replay::check_data(klen as usize, vlen as usize, maximum as usize));
 }
 
 fn tombstone(klen: u64, maximum: u64) {
@@ -579,7 +579,7 @@ fn tombstone(klen: u64, maximum: u64) {
     say(b", maximum ");
     number(maximum);
     say(b": ");
-    limits(replay::check_tombstone(klen, maximum));
+    limits(replay::check_tombstone(klen as usize, maximum as usize));
 }
 
 fn data_limits() {
