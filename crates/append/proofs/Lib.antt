@@ -2,3 +2,4 @@ pub mod Encodings
 pub mod Acceptance
 pub mod Answering
 pub mod Only
+pub mod Writes

@@ -108,7 +108,7 @@ byte-zero : (r : ℕ) → r < 2 ^ 16 → byte r 0 ≡ 0 → r ≡ 0
 unfolding byte
 byte-zero r h e = steps-zero 8 r h (ap (steps 8) (sym (xor-zero-r r)) ∙ e)
 
-zeros-zero : (n r : ℕ) → r < 2 ^ 16 → crcFrom r (replicate n 0) ≡ 0 → r ≡ 0
+pub zeros-zero : (n r : ℕ) → r < 2 ^ 16 → crcFrom r (replicate n 0) ≡ 0 → r ≡ 0
 unfolding crcFrom
 zeros-zero zero r h e = e
 zeros-zero (suc n) r h e = byte-zero r h (zeros-zero n (byte r 0) (byte-lt r 0) e)

@@ -1,0 +1,13 @@
+pub mod Local
+pub mod Written
+pub mod Bounds
+pub mod Listings
+pub mod Logs
+pub mod Theorem
+pub mod Door
+pub mod Small
+pub mod OneEntry
+pub mod Torn
+pub mod Examples
+pub mod Worked
+pub mod Stretches
