@@ -4,8 +4,8 @@ use Prim.Native.Nat.{ℕ, zero, suc}
 use mathlib.Core.Path.{_≡_, refl, sym, ap, _∙_}
 use mathlib.Core.List.{List, [], _∷_}
 use native.Mathlib.Omega.{arith}
-use Rattle.answers.specs.Numbers.{numberOf}
-use Rattle.answers.specs.Answers.{Said, refused, unlessRefused, saidVerdict}
+use Rattle.answers.specs.Numbers.{numberOf, numberOfVerdict}
+use Rattle.answers.specs.Answers.{Said, accepted, refused, unlessRefused, saidVerdict}
 use Rattle.answers.specs.declared.Verdict.{Verdict}
 use Rattle.answers.specs.declared.Verdict.the-variants.{Accepted, Refused}
 use Rattle.answers.specs.declared.Refusal.{Refusal}
@@ -74,3 +74,16 @@ verdict-once Accepted Accepted e = refl
 verdict-once Accepted (Refused r) e = absurd (let z : _≡_ {A = ℕ} 0 1 = cc in omega arith)
 verdict-once (Refused r) Accepted e = absurd (let z : _≡_ {A = ℕ} 0 1 = cc in omega arith)
 verdict-once (Refused r) (Refused q) e = let n : numberOf r ≡ numberOf q = cc in ap Refused (same-number r q n)
+
+-- no refusal has the number 0, and so a check's number tells its answers apart too
+pub number-not-zero : (r : Refusal) → numberOf r ≡ 0 → ⊥
+number-not-zero r e =
+    let f : _≡_ {A = Said ℕ} (accepted 0) (refused (numberOf r) []) = sym (ap (λ (n : ℕ). unlessRefused n (accepted 0)) e) ∙ refusal-refuses r (accepted 0) in
+    let z : _≡_ {A = ℕ} 0 1 = cc in
+    omega arith
+
+pub verdict-by-number : (a b : Verdict) → numberOfVerdict a ≡ numberOfVerdict b → a ≡ b
+verdict-by-number Accepted Accepted e = refl
+verdict-by-number Accepted (Refused r) e = absurd (number-not-zero r (sym e))
+verdict-by-number (Refused r) Accepted e = absurd (number-not-zero r e)
+verdict-by-number (Refused r) (Refused q) e = ap Refused (same-number r q e)

@@ -3,75 +3,78 @@
 -- Assumes nothing.
 use Prim.Native.Nat.{ℕ}
 use mathlib.Core.Path.{_≡_, sym, _∙_}
-use mathlib.Core.Bool.{Bool}
 use mathlib.Core.List.{List}
-use lib.IntN.{ℤ}
 use Rattle.answers.specs.Answers.{Said, accepted, refused}
+use Rattle.answers.specs.OneAnswer.{Agree, OneAnswer}
 use Rattle.tracker.specs.declared.Tracker.{Tracker}
-use Rattle.tracker.specs.declared.AfterReserve.{AfterReserve}
-use Rattle.tracker.specs.declared.AfterRecord.{AfterRecord}
-use Rattle.tracker.specs.declared.AfterFinish.{AfterFinish}
-use Rattle.tracker.specs.declared.CheckpointAnswer.{CheckpointAnswer}
-use Rattle.tracker.specs.declared.AfterDrain.{AfterDrain}
-use Rattle.tracker.specs.declared.AfterClear.{AfterClear}
-use Rattle.tracker.specs.State.{State, view, freshState}
-use Rattle.tracker.specs.Sound.{sound}
+use Rattle.tracker.specs.State.{State, view}
 use Rattle.tracker.specs.Outcome.{Met}
-use Rattle.tracker.specs.Reserving.{reserveOf, saidReserve, ReserveMet}
-use Rattle.tracker.specs.Recording.{recordOf, saidRecord, RecordMet}
-use Rattle.tracker.specs.Finishing.{stale, finishOf, saidFinish, FinishMet}
-use Rattle.tracker.specs.Checkpoints.{checkpointOf, saidCheckpoint}
-use Rattle.tracker.specs.Draining.{drainOf, saidDrain, DrainMet}
-use Rattle.tracker.specs.Clearing.{clearOf, saidClear, ClearMet}
+use Rattle.tracker.specs.Reserving.{saidReserve}
+use Rattle.tracker.specs.Recording.{saidRecord}
+use Rattle.tracker.specs.Finishing.{Finished, stale, saidFinish}
+use Rattle.tracker.specs.Draining.{saidDrain}
+use Rattle.tracker.specs.Clearing.{saidClear}
 use Rattle.tracker.proofs.Sayings.{reserve-says, record-says, finish-says, checkpoint-says, drain-says, clear-says}
+use Rattle.tracker.proofs.fresh.Kinds as fresh-kinds
+use Rattle.tracker.proofs.fresh.Reads as fresh-call
+use Rattle.tracker.proofs.is_sound.Kinds as is-sound-kinds
+use Rattle.tracker.proofs.is_sound.Reads as is-sound-call
+use Rattle.tracker.proofs.reserve.Kinds as reserve-kinds
+use Rattle.tracker.proofs.reserve.Reads as reserve-call
+use Rattle.tracker.proofs.record.Kinds as record-kinds
+use Rattle.tracker.proofs.record.Reads as record-call
+use Rattle.tracker.proofs.complete.Kinds as complete-kinds
+use Rattle.tracker.proofs.complete.Reads as complete-call
+use Rattle.tracker.proofs.abandon.Kinds as abandon-kinds
+use Rattle.tracker.proofs.abandon.Reads as abandon-call
+use Rattle.tracker.proofs.checkpoint.Kinds as checkpoint-kinds
+use Rattle.tracker.proofs.checkpoint.Reads as checkpoint-call
+use Rattle.tracker.proofs.drain.Kinds as drain-kinds
+use Rattle.tracker.proofs.drain.Reads as drain-call
+use Rattle.tracker.proofs.clear.Kinds as clear-kinds
+use Rattle.tracker.proofs.clear.Reads as clear-call
 
 -- two results: the same answer and view, and on a refusal the same value
-pub record Same (A Answer : Type 0) (asked : Said A) (x y : Answer) (u v : Tracker) : Type 0 where
+pub record Same {A Answer : Type 0} (says : Answer → Said A) (x y : Answer) (u v : Tracker) : Type 0 where
   pub answers : x ≡ y
   pub views : view u ≡ view v
-  pub refusals : (n : ℕ) (values : List ℕ) → asked ≡ refused n values → u ≡ v
+  pub refusals : (n : ℕ) (values : List ℕ) → says x ≡ refused n values → u ≡ v
 
 same-by : {A Answer : Type 0} (says : Answer → Said A) → ((x y : Answer) → says x ≡ says y → x ≡ y)
-    → (asked : Said A) (t : Tracker) (new : State) (x y : Answer) (u v : Tracker)
-    → Met A asked (says x) t u new → Met A asked (says y) t v new → Same A Answer asked x y u v
-same-by says one asked t new x y u v a b = record {
+    → {asked : Said A} {t : Tracker} {new : State} (x y : Answer) {u v : Tracker}
+    → Met A asked (says x) t u new → Met A asked (says y) t v new → Same says x y u v
+same-by says one x y a b = record {
   answers = one x y (a .answer ∙ sym (b .answer));
   views = a .state ∙ sym (b .state);
-  refusals = λ n values e. a .untouched n values e ∙ sym (b .untouched n values e);
+  refusals = λ n values e. a .untouched n values (sym (a .answer) ∙ e) ∙ sym (b .untouched n values (sym (a .answer) ∙ e));
 }
 
-pub fresh-only : (u v : Tracker) → view u ≡ freshState → view v ≡ freshState → view u ≡ view v
-fresh-only u v a b = a ∙ sym b
+pub fresh-only : Agree 0 fresh-kinds.ps fresh-kinds.r fresh-call.Post (λ κs u v x y. view u ≡ view v)
+fresh-only κs args u v x y a b = a ∙ sym b
 
-pub is-sound-only : (t : Tracker) (a b : Bool) → a ≡ sound (view t) → b ≡ sound (view t) → a ≡ b
-is-sound-only t a b p q = p ∙ sym q
+pub is-sound-only : OneAnswer 0 is-sound-kinds.ps is-sound-kinds.r is-sound-call.Post
+is-sound-only κs args r s x y a b = a ∙ sym b
 
-module _ (t : Tracker) where
-  pub reserve-only : (shard ordinal used capacity : ℕ) (sealed : Bool) (len : ℕ) (r q : AfterReserve)
-      → ReserveMet t shard ordinal used capacity sealed len r → ReserveMet t shard ordinal used capacity sealed len q
-      → Same _ _ (reserveOf (view t) shard used capacity sealed len) (r .answer) (q .answer) (r .tracker) (q .tracker)
-  reserve-only shard ordinal used capacity sealed len r q = same-by saidReserve reserve-says _ t _ (r .answer) (q .answer) (r .tracker) (q .tracker)
+pub checkpoint-only : OneAnswer 0 checkpoint-kinds.ps checkpoint-kinds.r checkpoint-call.Post
+checkpoint-only κs args r s x y a b = checkpoint-says r s (a ∙ sym b)
 
-  pub record-only : (shard : ℕ) (delta : ℤ) (r q : AfterRecord) → RecordMet t shard delta r → RecordMet t shard delta q
-      → Same _ _ (recordOf (view t) shard) (r .answer) (q .answer) (r .tracker) (q .tracker)
-  record-only shard delta r q = same-by saidRecord record-says _ t _ (r .answer) (q .answer) (r .tracker) (q .tracker)
+pub reserve-only : Agree 0 reserve-kinds.ps reserve-kinds.r reserve-call.Post (λ κs r q x y. Same saidReserve (r .answer) (q .answer) (r .tracker) (q .tracker))
+reserve-only κs args r q x y a b = same-by saidReserve reserve-says (r .answer) (q .answer) a b
 
-  -- of complete and of abandon, whose contracts are both of this form
-  pub finish-only : (shard number : ℕ) (new : State) (r q : AfterFinish) → FinishMet t shard number new r → FinishMet t shard number new q
-      → Same _ _ (finishOf (view t) shard number) (r .answer) (q .answer) (r .tracker) (q .tracker)
-      × (finishOf (view t) shard number ≡ accepted stale → r .tracker ≡ q .tracker)
-  finish-only shard number new r q a b = (
-    same-by saidFinish finish-says _ t new (r .answer) (q .answer) (r .tracker) (q .tracker) (a .met) (b .met),
-    λ e. a .stale-untouched e ∙ sym (b .stale-untouched e),
-  )
+pub record-only : Agree 0 record-kinds.ps record-kinds.r record-call.Post (λ κs r q x y. Same saidRecord (r .answer) (q .answer) (r .tracker) (q .tracker))
+record-only κs args r q x y a b = same-by saidRecord record-says (r .answer) (q .answer) a b
 
-  pub checkpoint-only : (ordinal used : ℕ) (r q : CheckpointAnswer) → saidCheckpoint r ≡ checkpointOf (view t) ordinal used
-      → saidCheckpoint q ≡ checkpointOf (view t) ordinal used → r ≡ q
-  checkpoint-only ordinal used r q a b = checkpoint-says r q (a ∙ sym b)
+pub drain-only : Agree 0 drain-kinds.ps drain-kinds.r drain-call.Post (λ κs r q x y. Same saidDrain (r .answer) (q .answer) (r .tracker) (q .tracker))
+drain-only κs args r q x y a b = same-by saidDrain drain-says (r .answer) (q .answer) a b
 
-  pub drain-only : (limit : ℕ) (r q : AfterDrain) → DrainMet t limit r → DrainMet t limit q
-      → Same _ _ (drainOf (view t) limit) (r .answer) (q .answer) (r .tracker) (q .tracker)
-  drain-only limit r q = same-by saidDrain drain-says _ t _ (r .answer) (q .answer) (r .tracker) (q .tracker)
+pub clear-only : Agree 0 clear-kinds.ps clear-kinds.r clear-call.Post (λ κs r q x y. Same saidClear (r .answer) (q .answer) (r .tracker) (q .tracker))
+clear-only κs args r q x y a b = same-by saidClear clear-says (r .answer) (q .answer) a b
 
-  pub clear-only : (r q : AfterClear) → ClearMet t r → ClearMet t q → Same _ _ (clearOf (view t)) (r .answer) (q .answer) (r .tracker) (q .tracker)
-  clear-only r q = same-by saidClear clear-says _ t _ (r .answer) (q .answer) (r .tracker) (q .tracker)
+-- of complete and abandon: besides, where the call is stale, the same value
+pub complete-only : Agree 0 complete-kinds.ps complete-kinds.r complete-call.Post (λ κs r q x y. Same saidFinish (r .answer) (q .answer) (r .tracker) (q .tracker) × (saidFinish (r .answer) ≡ accepted stale → r .tracker ≡ q .tracker))
+complete-only κs args r q x y a b =
+    (same-by saidFinish finish-says (r .answer) (q .answer) (a .met) (b .met), λ e. a .stale-untouched (sym (a .met .answer) ∙ e) ∙ sym (b .stale-untouched (sym (a .met .answer) ∙ e)))
+
+pub abandon-only : Agree 0 abandon-kinds.ps abandon-kinds.r abandon-call.Post (λ κs r q x y. Same saidFinish (r .answer) (q .answer) (r .tracker) (q .tracker) × (saidFinish (r .answer) ≡ accepted stale → r .tracker ≡ q .tracker))
+abandon-only κs args r q x y a b =
+    (same-by saidFinish finish-says (r .answer) (q .answer) (a .met) (b .met), λ e. a .stale-untouched (sym (a .met .answer) ∙ e) ∙ sym (b .stale-untouched (sym (a .met .answer) ∙ e)))
