@@ -20,6 +20,7 @@ ghost use Rattle.tail.specs.Tail.{usedOf, durableOf};
 ghost use Rattle.replay.specs.Limits.{dataLimits, tombstoneLimits};
 ghost use Rattle.replay.specs.Start.{startOf};
 ghost use Rattle.locker.specs.Outs.{startOut, startFound, numberSaid, placeOut, valueOut, eight, entryOut, AppendOut, WalkOut};
+use answers::Refusal;
 use append::Appended;
 use entry::Entry;
 use header::HeaderRead;
@@ -162,7 +163,7 @@ pub extern "C" fn locker_walk(
         Walked::Refused(refusal) => answers::number(refusal),
         Walked::UnknownAt(p) => {
             *place = p as u64;
-            10
+            answers::number(Refusal::UnknownType)
         }
     }
 }
@@ -217,7 +218,7 @@ pub extern "C" fn locker_durable_end(
         DurableEnd::Refused(refusal) => answers::number(refusal),
         DurableEnd::UnknownAt(p) => {
             *place = p as u64;
-            10
+            answers::number(Refusal::UnknownType)
         }
     }
 }

@@ -23,9 +23,9 @@ returns-2 c =
 
 returns-3 : tie.Need-returns-3
 returns-3 c =
-    let z = c .before .before .before in
-    let e = sym (ap saidDurable (c .before .answer3 .given .1)) ∙ z .durable-end .ensures in
-    (ap numberSaid e, ap (λ (x : Said ℕ). valueOut x (z .before .before .args .end .now)) e, ap (λ (x : Said ℕ). placeOut x (z .before .before .args .place .now)) e)
+    let z = c .before .before .before .before in
+    let e = sym (ap saidDurable (c .before .before .answer3 .given .1)) ∙ z .durable-end .ensures in
+    (c .number2 .ensures ∙ ap numberSaid e, ap (λ (x : Said ℕ). valueOut x (z .before .before .args .end .now)) e, ap (λ (x : Said ℕ). placeOut x (z .before .before .args .place .now)) e)
 
 pub locker-durable-end-spec : {M : Type 1} → statement M
-locker-durable-end-spec = tie.close (tie.spec (λ c κs. search needs) (λ c. search needs) (λ c. search needs) (λ c κs. search needs) (λ c. search needs) returns returns-2 returns-3)
+locker-durable-end-spec = tie.close (tie.spec (λ c κs. search needs) (λ c. search needs) (λ c. search needs) (λ c κs. search needs) (λ c. search needs) (λ c κs. search needs) returns returns-2 returns-3)

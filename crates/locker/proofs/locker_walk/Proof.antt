@@ -28,9 +28,9 @@ returns-3 c =
 
 returns-4 : tie.Need-returns-4
 returns-4 c =
-    let z = c .before .before .before in
-    let e = sym (ap said (c .before .answer3 .given .1)) ∙ z .walk .ensures in
-    record { says = ap numberSaid e; tells = ap (λ (x : Said Step). walkedOut x (z .before .before .args .entry .now)) e; finds = ap (λ (x : Said Step). foundOut x (z .before .before .args .found .now)) e; places = ap (λ (x : Said Step). placeOut x (z .before .before .args .place .now)) e }
+    let z = c .before .before .before .before in
+    let e = sym (ap said (c .before .before .answer3 .given .1)) ∙ z .walk .ensures in
+    record { says = c .number2 .ensures ∙ ap numberSaid e; tells = ap (λ (x : Said Step). walkedOut x (z .before .before .args .entry .now)) e; finds = ap (λ (x : Said Step). foundOut x (z .before .before .args .found .now)) e; places = ap (λ (x : Said Step). placeOut x (z .before .before .args .place .now)) e }
 
 pub locker-walk-spec : {M : Type 1} → statement M
-locker-walk-spec = tie.close (tie.spec (λ c κs. search needs) (λ c. search needs) (λ c κs. search needs) (λ c. search needs) (λ c. search needs) (λ c κs. search needs) (λ c. search needs) returns returns-2 returns-3 returns-4)
+locker-walk-spec = tie.close (tie.spec (λ c κs. search needs) (λ c. search needs) (λ c κs. search needs) (λ c. search needs) (λ c. search needs) (λ c κs. search needs) (λ c. search needs) (λ c κs. search needs) returns returns-2 returns-3 returns-4)
