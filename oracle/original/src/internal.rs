@@ -1,0 +1,44 @@
+//! What the text takes from `internal.rs`: document 01's values where it has them, else the commit's, and the commit's own
+//! functions and structs, cut out of its text by `build.rs`.
+use std::{
+    fs::File,
+    path::{Path, PathBuf},
+};
+
+use crate::types::{Error, Result};
+
+// Document 01, "Values the text names".
+pub const FILE_OFFSET_ALIGNMENT: u64 = 16;
+pub const DATA_ENTRY_OFFSET_MASK: u32 = (1 << 24) - 1;
+pub const KEY_NAMESPACE_BITS: u8 = 6;
+pub const MAX_KEY_NAMESPACE: u8 = 63;
+pub const DATA_FILE_SIGNATURE: &[u8; 8] = &[0x4c, 0x4f, 0x43, 0x4b, 0x44, 0x41, 0x54, 0x31];
+pub const DATA_FILE_VERSION: u32 = 1;
+
+// Document 01 doesn't name these: the commit's.
+pub const PAGE_SIZE: usize = 4096;
+pub const READ_BUFFER_SIZE: usize = 128 * 1024;
+pub const SIZE_HINT_UNIT: usize = 512;
+
+/// Document 01: the mark at offset p is (p/16 + 0x5A17C0) mod 2^24.
+pub fn entry_magic_offset(file_offset: u64) -> u32 {
+    (((file_offset / FILE_OFFSET_ALIGNMENT) + 0x5a_17c0) % (1 << 24)) as u32
+}
+
+/// Document 01 numbers namespaces from 0 to 63 and names none. The text only casts them.
+pub type KeyNamespace = u8;
+
+/// The text's `indexed_live_bytes` takes these. It is left out, so there are none.
+pub enum EntryPointer {}
+
+impl EntryPointer {
+    pub fn file_offset(&self) -> u64 {
+        match *self {}
+    }
+
+    pub fn size_hint(&self) -> usize {
+        match *self {}
+    }
+}
+
+include!(concat!(env!("OUT_DIR"), "/internal_cut.rs"));

@@ -1,0 +1,267 @@
+//! A call, as both sides are asked it, and an answer, as both sides give it.
+pub use original::{Slot, State};
+
+pub const MAX_REGION: usize = 268_435_456;
+pub const HEADER: usize = 4096;
+
+/// A data region: all its bytes, or zeros with one run of bytes put over them. The second form is for regions of hundreds
+/// of megabytes, of which one place is of interest.
+#[derive(Debug, Clone, PartialEq, Eq)]
+pub enum Region {
+    Dense(Vec<u8>),
+    Sparse { length: usize, at: usize, bytes: Vec<u8> },
+}
+
+impl Region {
+    pub fn len(&self) -> usize {
+        match self {
+            Region::Dense(bytes) => bytes.len(),
+            Region::Sparse { length, .. } => *length,
+        }
+    }
+}
+
+/// A call of the tracker.
+#[derive(Debug, Clone, PartialEq, Eq)]
+pub enum Step {
+    Reserve { shard: u64, ordinal: u64, used: u64, capacity: u64, sealed: bool, length: u64 },
+    Complete { shard: u64, number: u64, delta: i8 },
+    Abandon { shard: u64, number: u64 },
+    Record { shard: u64, delta: i8 },
+    Checkpoint { ordinal: u64, used: u64 },
+    Drain { limit: u64 },
+    Clear,
+}
+
+#[derive(Debug, Clone, PartialEq, Eq)]
+pub enum Call {
+    Hash {
+        bytes: Vec<u8>,
+    },
+    Update {
+        state: u16,
+        bytes: Vec<u8>,
+    },
+    ReadHeader {
+        bytes: Vec<u8>,
+    },
+    WriteHeader {
+        lent: Vec<u8>,
+        ordinal: u64,
+    },
+    ReadAt {
+        region: Region,
+        place: u64,
+        hint: u64,
+    },
+    AppendData {
+        region: Region,
+        used: u64,
+        kind: u64,
+        ns: u64,
+        key: Vec<u8>,
+        value: Vec<u8>,
+    },
+    AppendTombstone {
+        region: Region,
+        used: u64,
+        ns: u64,
+        key: Vec<u8>,
+    },
+    Walk {
+        region: Region,
+        bound: u64,
+        offset: u64,
+    },
+    /// The walk repeated from 0, each time from the last entry's end. The original keeps its read buffer all along.
+    Listing {
+        region: Region,
+        bound: u64,
+    },
+    Part {
+        region: Region,
+        at: u64,
+        len: u64,
+    },
+    UsedBound {
+        region: Region,
+    },
+    DurableEnd {
+        region: Region,
+        bound: u64,
+    },
+    /// Header, used bound and durable end of a whole file, which the original's `open` does in one.
+    Boot {
+        file: Vec<u8>,
+    },
+    /// One call on a tracker in any state. A trace is a run of them, each from the state that the last one left.
+    Track {
+        state: Box<State>,
+        step: Step,
+    },
+    ReplayData {
+        klen: u64,
+        vlen: u64,
+        maximum: u64,
+    },
+    ReplayTombstone {
+        klen: u64,
+        maximum: u64,
+    },
+    StartFile {
+        ordinals: Vec<u64>,
+        cursor: u64,
+    },
+}
+
+/// An answer: document 01's number (0 for accepted), the values that go with it, the bytes that a call handed back or left
+/// in what was lent to it, and a tracker's state afterwards.
+#[derive(Debug, Clone, PartialEq, Eq, Default)]
+pub struct Said {
+    pub number: u32,
+    pub values: Vec<u64>,
+    pub bytes: Vec<u8>,
+    pub state: Option<Box<State>>,
+}
+
+impl Said {
+    pub fn refused(number: u32) -> Self {
+        Said { number, ..Default::default() }
+    }
+
+    pub fn values(values: &[u64]) -> Self {
+        Said { values: values.to_vec(), ..Default::default() }
+    }
+}
+
+/// An operation and the answers it can give, for the table.
+pub struct Operation {
+    pub name: &'static str,
+    pub answers: &'static [&'static str],
+}
+
+pub const OPERATIONS: &[Operation] = &[
+    Operation { name: "checksum", answers: &["sum"] },
+    Operation { name: "checksum, continued", answers: &["sum"] },
+    Operation { name: "header reader", answers: &["ordinal", "1", "2"] },
+    Operation { name: "header writer", answers: &["written", "1"] },
+    Operation { name: "read at a place", answers: &["data", "3", "5", "6", "7", "8", "9"] },
+    Operation { name: "append data", answers: &["used", "3", "5", "9", "17", "11", "12", "13"] },
+    Operation { name: "append tombstone", answers: &["used", "3", "5", "17", "11", "13"] },
+    Operation { name: "walk", answers: &["insert", "update", "tombstone", "End", "3", "4", "10"] },
+    Operation { name: "listing", answers: &["End", "3", "4", "10"] },
+    Operation { name: "part", answers: &["part", "empty"] },
+    Operation { name: "used bound", answers: &["bound", "0", "3"] },
+    Operation { name: "durable end", answers: &["end", "0", "3", "4", "10"] },
+    Operation { name: "boot (open)", answers: &["opened", "1", "2", "10"] },
+    Operation { name: "reserve", answers: &["reserved", "28", "14", "16", "15", "5", "3", "13"] },
+    Operation { name: "complete", answers: &["Done", "Stale", "28", "14"] },
+    Operation { name: "abandon", answers: &["Done", "Stale", "28", "14"] },
+    Operation { name: "record", answers: &["recorded", "28", "14", "16", "15"] },
+    Operation { name: "checkpoint", answers: &["answered", "28"] },
+    Operation { name: "drain", answers: &["sum", "28"] },
+    Operation { name: "clear", answers: &["cleared", "28"] },
+    Operation { name: "replay data", answers: &["accepted", "3", "11", "12", "13"] },
+    Operation { name: "replay tombstone", answers: &["accepted", "3", "11", "13"] },
+    Operation { name: "start file", answers: &["place", "Nothing", "18"] },
+];
+
+impl Call {
+    pub fn operation(&self) -> &'static str {
+        match self {
+            Call::Hash { .. } => "checksum",
+            Call::Update { .. } => "checksum, continued",
+            Call::ReadHeader { .. } => "header reader",
+            Call::WriteHeader { .. } => "header writer",
+            Call::ReadAt { .. } => "read at a place",
+            Call::AppendData { .. } => "append data",
+            Call::AppendTombstone { .. } => "append tombstone",
+            Call::Walk { .. } => "walk",
+            Call::Listing { .. } => "listing",
+            Call::Part { .. } => "part",
+            Call::UsedBound { .. } => "used bound",
+            Call::DurableEnd { .. } => "durable end",
+            Call::Boot { .. } => "boot (open)",
+            Call::Track { step, .. } => match step {
+                Step::Reserve { .. } => "reserve",
+                Step::Complete { .. } => "complete",
+                Step::Abandon { .. } => "abandon",
+                Step::Record { .. } => "record",
+                Step::Checkpoint { .. } => "checkpoint",
+                Step::Drain { .. } => "drain",
+                Step::Clear => "clear",
+            },
+            Call::ReplayData { .. } => "replay data",
+            Call::ReplayTombstone { .. } => "replay tombstone",
+            Call::StartFile { .. } => "start file",
+        }
+    }
+
+    /// The name of an answer to this call, as the table has it.
+    pub fn answer_name(&self, said: &Said) -> String {
+        if said.number != 0 {
+            return said.number.to_string();
+        }
+        let first = said.values.first().copied();
+        let name = match self {
+            Call::Walk { .. } => match (first, said.values.get(2)) {
+                (Some(1), Some(0)) => "insert",
+                (Some(1), Some(1)) => "update",
+                (Some(1), _) => "tombstone",
+                _ => "End",
+            },
+            Call::Listing { .. } => "End",
+            Call::Part { .. } => {
+                if said.values.get(1) == Some(&0) {
+                    "empty"
+                } else {
+                    "part"
+                }
+            }
+            Call::UsedBound { .. } => {
+                if first == Some(0) {
+                    "0"
+                } else {
+                    "bound"
+                }
+            }
+            Call::DurableEnd { .. } => {
+                if first == Some(0) {
+                    "0"
+                } else {
+                    "end"
+                }
+            }
+            Call::Track { step: Step::Complete { .. } | Step::Abandon { .. }, .. } => {
+                if first == Some(1) {
+                    "Done"
+                } else {
+                    "Stale"
+                }
+            }
+            Call::StartFile { .. } => {
+                if first == Some(1) {
+                    "place"
+                } else {
+                    "Nothing"
+                }
+            }
+            _ => {
+                let operation = self.operation();
+                OPERATIONS.iter().find(|known| known.name == operation).map_or("?", |known| known.answers[0])
+            }
+        };
+        name.to_string()
+    }
+}
+
+/// An entry's eight numbers in the order of the C interface's struct.
+pub fn eight(offset: u64, kind: u64, ns: u64, klen: u64, vlen: u64, end: u64) -> [u64; 8] {
+    let header = if kind == 2 { 6 } else { 8 };
+    [offset, kind, ns, klen, vlen, offset + header, offset + header + vlen, end]
+}
+
+/// A length rounded up to a line.
+pub fn up16(length: u64) -> u64 {
+    length.div_ceil(16) * 16
+}

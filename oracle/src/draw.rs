@@ -1,0 +1,756 @@
+//! Inputs at random: logs, damaged logs, nested entries, entries flush with the region's end, marks without entries, and
+//! traces of the tracker. Most are small, because most that can go wrong does so on a few lines.
+use crate::{
+    calls::{up16, Call, Region, Said, Slot, State, Step, HEADER, MAX_REGION},
+    rng::Rng,
+};
+
+/// The original's walk reads so many bytes at once.
+const BUFFER_END: usize = 131_072;
+
+/// Document 01: the mark is 0 here.
+pub const MARK_ZERO: usize = 173_966_336;
+
+pub fn mark(p: usize) -> u32 {
+    ((p as u64 / 16 + 0x5a_17c0) % (1 << 24)) as u32
+}
+
+/// An entry's bytes without filling, of any type and layout, and with a right checksum.
+pub fn entry(p: usize, kind: u32, ns: u32, tombstone: bool, key: &[u8], value: &[u8]) -> Vec<u8> {
+    let mut bytes = (mark(p) | ns << 24 | kind << 30).to_le_bytes().to_vec();
+    bytes.extend((key.len() as u16).to_le_bytes());
+    if !tombstone {
+        bytes.extend((value.len() as u16).to_le_bytes());
+        bytes.extend(value);
+    }
+    bytes.extend(key);
+    let sum = crc16_ibm3740_fast::hash(&bytes) as u16;
+    bytes.extend(sum.to_le_bytes());
+    bytes
+}
+
+/// Puts as many of the bytes over the region as it has room for.
+pub fn put(region: &mut [u8], at: usize, bytes: &[u8]) {
+    if at < region.len() {
+        let count = bytes.len().min(region.len() - at);
+        region[at..at + count].copy_from_slice(&bytes[..count]);
+    }
+}
+
+pub fn fresh_state() -> State {
+    State { slots: [Slot::default(); 16], queues: Default::default(), next: 1 }
+}
+
+pub struct Draw {
+    pub rng: Rng,
+    trace: State,
+    steps_left: u32,
+    /// In a trace, how many shards are used and how often a delta is recorded, so that queues fill in some of them.
+    shards: u64,
+    records: u64,
+}
+
+impl Draw {
+    pub fn new(seed: u64) -> Self {
+        Draw { rng: Rng::new(seed), trace: fresh_state(), steps_left: 0, shards: 1, records: 1 }
+    }
+
+    pub fn call(&mut self) -> Call {
+        match self.rng.below(100) {
+            0..=2 => self.hash(),
+            3..=6 => self.header(),
+            7..=21 => self.read_at(),
+            22..=34 => self.append_data(),
+            35..=41 => self.append_tombstone(),
+            42..=61 => self.walk(),
+            62..=67 => self.listing(),
+            68 => self.part(),
+            69..=73 => Call::UsedBound { region: self.dense() },
+            74..=79 => self.durable_end(),
+            80..=81 => self.boot(),
+            82..=95 => self.track(),
+            96..=98 => self.replay(),
+            _ => self.start_file(),
+        }
+    }
+
+    /// Takes the state that a call of the tracker left, for the trace to go on from.
+    pub fn learn(&mut self, said: &Said) {
+        if let Some(state) = &said.state {
+            self.trace = (**state).clone();
+        }
+    }
+
+    // ---- regions
+
+    fn length(&mut self) -> usize {
+        let rng = &mut self.rng;
+        (match rng.below(400) {
+            0..=19 => rng.within(0, 24),
+            20..=179 => rng.within(0, 200),
+            180..=319 => 16 * rng.within(0, 20) + rng.pick(&[0, 0, 0, 1, 7, 8, 9, 10, 13, 15]),
+            320..=395 => rng.within(200, 4096),
+            396..=398 => rng.within(60_000, 70_000),
+            _ => rng.pick(&[BUFFER_END as u64 - 40, 140_000, 262_100]) + rng.below(4200),
+        }) as usize
+    }
+
+    fn short(&mut self) -> usize {
+        let rng = &mut self.rng;
+        (match rng.below(20) {
+            0..=4 => 0,
+            5..=14 => rng.within(0, 8),
+            15..=18 => rng.within(0, 40),
+            _ => rng.within(0, 600),
+        }) as usize
+    }
+
+    /// Lengths of key and value for an entry that has about this much room.
+    fn lengths(&mut self, room: usize) -> (usize, usize) {
+        if room < 5000 || self.rng.once_in(3) {
+            return (self.short(), self.short());
+        }
+        let long = [4095, 4096, 4097, 32_767, 32_768, 32_769, 65_534, 65_535];
+        let klen = self.rng.pick(&[0, 1, 4095, 4096, 4097, 65_535]);
+        let left = room.saturating_sub(10 + klen).min(65_535);
+        let vlen = if self.rng.once_in(2) { left } else { self.rng.pick(&long) };
+        (klen, vlen)
+    }
+
+    fn some_entry(&mut self, p: usize, room: usize) -> Vec<u8> {
+        let (klen, vlen) = self.lengths(room);
+        let kind = self.rng.pick(&[0, 0, 0, 0, 1, 1, 1, 2, 2, 2, 2, 3]);
+        let tombstone = if self.rng.once_in(16) { self.rng.once_in(2) } else { kind == 2 };
+        let ns = self.rng.below(64) as u32;
+        let (key, value) = (self.rng.bytes(klen), self.rng.bytes(vlen));
+        entry(p, kind, ns, tombstone, &key, &value)
+    }
+
+    fn some_line(&mut self, length: usize) -> usize {
+        16 * self.rng.below(length as u64 / 16 + 1) as usize
+    }
+
+    /// A log from offset 0 on, with a gap here and there.
+    fn log(&mut self, region: &mut [u8]) {
+        let mut p = 0;
+        let entries = self.rng.below(24);
+        for _ in 0..entries {
+            if p >= region.len() {
+                return;
+            }
+            let mut bytes = self.some_entry(p, region.len() - p);
+            // A type 3 entry ends every walk, so most logs have none.
+            if bytes[3] >> 6 == 3 && !self.rng.once_in(6) {
+                bytes[3] &= 0x7f;
+                let end = bytes.len() - 2;
+                let sum = crc16_ibm3740_fast::hash(&bytes[..end]) as u16;
+                bytes[end..].copy_from_slice(&sum.to_le_bytes());
+            }
+            bytes.resize(up16(bytes.len() as u64) as usize, 0xff);
+            put(region, p, &bytes);
+            p += bytes.len() + if self.rng.once_in(8) { 16 * self.rng.below(4) as usize } else { 0 };
+        }
+    }
+
+    /// One of the ways in which a region isn't a clean log.
+    fn disturb(&mut self, region: &mut [u8]) {
+        let length = region.len();
+        let line = self.some_line(length);
+        let any = self.rng.below(length.max(1) as u64) as usize;
+        match self.rng.below(12) {
+            0..=1 => {
+                let bytes = self.some_entry(line, length - line);
+                put(region, line, &bytes);
+            }
+            2 => self.flush_with_end(region),
+            3 => self.nested(region, line),
+            4 => {
+                let lengths = self.rng.pick(&[0u32, 1, 0xffff, 0xffff_ffff, 0x0010_0010]).to_le_bytes();
+                let word = (mark(line) | (self.rng.next() as u32) << 24).to_le_bytes();
+                put(region, line, &[word, lengths].concat());
+            }
+            5 => put(region, line + 3, &[self.rng.next() as u8]),
+            6 => {
+                let at = line + self.rng.below(10) as usize;
+                put(region, at, &[self.rng.next() as u8]);
+            }
+            7..=8 if length > 0 => region[any] ^= 1 << self.rng.below(8),
+            9 => {
+                let bytes = vec![self.rng.pick(&[0, 0, 0xff]); self.rng.below(64) as usize];
+                put(region, any, &bytes);
+            }
+            10 if length > 0 => {
+                let end = region.len() - self.rng.below(20).min(region.len() as u64) as usize;
+                region[end..].fill(0);
+            }
+            _ => {
+                let bytes = self.rng.bytes(20);
+                put(region, any, &bytes);
+            }
+        }
+    }
+
+    /// A log over the place where the original's first read buffer ends.
+    fn over_buffer_end(&mut self, region: &mut [u8]) {
+        let mut p = BUFFER_END - 16 * self.rng.below(12) as usize;
+        for _ in 0..self.rng.below(12) {
+            let room = if self.rng.once_in(4) { 140_000 } else { 100 };
+            let bytes = self.some_entry(p, room);
+            put(region, p, &bytes);
+            p += up16(bytes.len() as u64) as usize;
+        }
+    }
+
+    /// An entry whose last byte is the region's last, or one past it.
+    fn flush_with_end(&mut self, region: &mut [u8]) {
+        let line = self.some_line(region.len());
+        let room = region.len() - line.min(region.len()) + usize::from(self.rng.once_in(3));
+        let tombstone = self.rng.once_in(2);
+        let least = if tombstone { 8 } else { 10 };
+        if room < least || room - least > 131_070 {
+            return;
+        }
+        let body = room - least;
+        let klen = if tombstone { body } else { self.rng.below(body as u64 + 1) as usize };
+        let vlen = body - klen;
+        if klen <= 65_535 && vlen <= 65_535 {
+            let (key, value) = (self.rng.bytes(klen), self.rng.bytes(vlen));
+            let kind = if tombstone { 2 } else { self.rng.below(2) as u32 };
+            put(region, line, &entry(line, kind, 1, tombstone, &key, &value));
+        }
+    }
+
+    /// An entry whose value holds entries that would verify at their own lines; sometimes the outer one is damaged.
+    fn nested(&mut self, region: &mut [u8], line: usize) {
+        let inner_lines = self.rng.within(1, 5) as usize;
+        let mut value = vec![0; 8 + 16 * inner_lines + 40];
+        for i in 0..inner_lines {
+            let p = line + 16 * (i + 1);
+            let inner = self.some_entry(p, 100);
+            put(&mut value, 8 + 16 * i, &inner);
+        }
+        let mut outer = entry(line, self.rng.below(2) as u32, 2, false, b"outer", &value);
+        if self.rng.once_in(2) {
+            let last = outer.len() - 1;
+            outer[last] ^= 1;
+        }
+        put(region, line, &outer);
+    }
+
+    pub fn bytes_of_region(&mut self) -> Vec<u8> {
+        let length = self.length();
+        let mut region = if self.rng.once_in(12) { self.rng.bytes(length) } else { vec![0; length] };
+        if !self.rng.once_in(5) {
+            self.log(&mut region);
+        }
+        if length > BUFFER_END - 200 && !self.rng.once_in(4) {
+            self.over_buffer_end(&mut region);
+        }
+        for _ in 0..self.rng.pick(&[0, 0, 0, 1, 1, 2, 3, 6]) {
+            self.disturb(&mut region);
+        }
+        region
+    }
+
+    fn dense(&mut self) -> Region {
+        if self.rng.once_in(300) {
+            return Region::Sparse { length: MAX_REGION + 1 + self.rng.below(64) as usize, at: 0, bytes: vec![] };
+        }
+        Region::Dense(self.bytes_of_region())
+    }
+
+    /// A region of the largest size, or one byte more, of which a few lines around the mark 0 are of interest.
+    fn sparse(&mut self) -> (Region, usize) {
+        let line = MARK_ZERO + 16 * self.rng.below(5) as usize - 32;
+        let mut bytes = if self.rng.once_in(2) { self.some_entry(line, 100) } else { vec![0; 8] };
+        if self.rng.once_in(2) {
+            self.disturb(&mut bytes);
+        }
+        let small = line + bytes.len() + self.rng.below(200) as usize;
+        let length = self.rng.pick(&[MAX_REGION, MAX_REGION - 1, MAX_REGION + 1, small, small, line + bytes.len()]);
+        (Region::Sparse { length, at: line, bytes }, line)
+    }
+
+    // ---- calls on regions
+
+    fn place(&mut self, region: &Region) -> u64 {
+        let length = region.len();
+        let line = self.some_line(length) as u64;
+        match self.rng.below(40) {
+            0..=1 => line + self.rng.below(16),
+            2 => up16(length as u64) + 16 * self.rng.below(3),
+            3 => self.rng.pick(&[
+                1 << 62,
+                (1 << 63) - 4112,
+                (1 << 63) - 4096,
+                1 << 63,
+                u64::MAX - 4111,
+                u64::MAX - 4095,
+                u64::MAX - 15,
+                u64::MAX,
+            ]),
+            4..=32 => self.entry_line(region).unwrap_or(line),
+            _ => line,
+        }
+    }
+
+    /// A line of the region with the right mark.
+    fn entry_line(&mut self, region: &Region) -> Option<u64> {
+        let Region::Dense(bytes) = region else { return None };
+        let marked = |p: usize| bytes.len() >= p + 4 && bytes[p..p + 3] == mark(p).to_le_bytes()[..3];
+        let lines: Vec<usize> = (0..bytes.len().min(8192)).step_by(16).filter(|&p| marked(p)).collect();
+        if lines.is_empty() {
+            None
+        } else {
+            Some(self.rng.pick(&lines) as u64)
+        }
+    }
+
+    fn hint(&mut self, region: &Region, place: u64) -> u64 {
+        if let (Region::Dense(bytes), true) = (region, self.rng.once_in(2)) {
+            if let Some(fields) = bytes.get(place as usize..).and_then(|rest| rest.get(4..8)) {
+                let length = |i: usize| u64::from(u16::from_le_bytes([fields[i], fields[i + 1]]));
+                return (10 + length(0) + length(2) + self.rng.below(5)).saturating_sub(2);
+            }
+        }
+        match self.rng.below(20) {
+            0 => self.rng.below(12),
+            1 => self.rng.pick(&[u64::MAX, 1 << 63, (1 << 63) - 1, 1 << 40, 1 << 20]),
+            2..=5 => self.rng.below(200),
+            6..=9 => region.len() as u64 + self.rng.below(3),
+            _ => 512 * self.rng.within(1, 8),
+        }
+    }
+
+    fn read_at(&mut self) -> Call {
+        if self.rng.once_in(60) {
+            let (region, line) = self.sparse();
+            return Call::ReadAt { region, place: line as u64, hint: 512 };
+        }
+        let mut region = self.bytes_of_region();
+        // Whole entries of types 2 and 3 in a data entry's layout are met too seldom otherwise.
+        if self.rng.once_in(10) {
+            let line = self.some_line(region.len());
+            let (kind, klen, vlen) = (self.rng.within(1, 3) as u32, self.short(), self.short());
+            let bytes = entry(line, kind, 5, false, &self.rng.bytes(klen), &self.rng.bytes(vlen));
+            put(&mut region, line, &bytes);
+        }
+        let region = Region::Dense(region);
+        let place = self.place(&region);
+        let hint = self.hint(&region, place);
+        Call::ReadAt { region, place, hint }
+    }
+
+    fn namespace(&mut self) -> u64 {
+        match self.rng.below(30) {
+            0 => self.rng.pick(&[64, 65, 127, 128, 255, 256, 1 << 32, u64::MAX]),
+            1 => self.rng.pick(&[0, 63]),
+            _ => self.rng.below(64),
+        }
+    }
+
+    /// A key's or value's length: short, now and then at a limit, or so that the entry is flush with the region's end.
+    fn run(&mut self, limit: u64) -> Vec<u8> {
+        let count = match self.rng.below(200) {
+            0..=2 => self.rng.within(limit - 1, limit + 1),
+            3 => self.rng.pick(&[65_535, 65_536, 65_537, 65_552]),
+            _ => self.short() as u64,
+        };
+        self.rng.bytes(count as usize)
+    }
+
+    fn capacity_for(&mut self, used: u64, length: u64) -> usize {
+        let end = (used + up16(length)) as usize;
+        match self.rng.below(10) {
+            0..=5 => end + self.rng.below(40) as usize,
+            6..=7 => end,
+            8 => end - 1,
+            _ => (used + self.rng.below(up16(length) + 1)) as usize,
+        }
+    }
+
+    fn used(&mut self) -> u64 {
+        match self.rng.below(40) {
+            0 => self.rng.below(300),
+            1 => self.rng.pick(&[u64::MAX - 15, u64::MAX - 31, u64::MAX - 4095, 1 << 63, u64::MAX]),
+            _ => 16 * self.rng.below(12),
+        }
+    }
+
+    fn append_region(&mut self, used: u64, length: u64) -> Region {
+        let capacity = if used > 1 << 20 { self.rng.below(100) as usize } else { self.capacity_for(used, length) };
+        let mut region = self.rng.bytes(capacity);
+        if self.rng.once_in(2) {
+            region.fill(0);
+        }
+        Region::Dense(region)
+    }
+
+    /// An append with several things wrong at once, for the order of refusals.
+    fn wrong_append(&mut self) -> Call {
+        let mut length = |limit: u64| if self.rng.once_in(3) { limit + 1 } else { self.rng.below(20) };
+        let (klen, vlen) = (length(4096) as usize, length(32_768) as usize);
+        let (key, value) = (vec![1; klen], vec![2; vlen]);
+        let kind = self.rng.pick(&[0, 1, 2, 3]);
+        let ns = self.rng.pick(&[1, 63, 64]);
+        let used = self.rng.pick(&[0, 16, 16, 17, u64::MAX - 15]);
+        let region = match self.rng.below(6) {
+            0 => Region::Sparse { length: MAX_REGION + 1, at: 0, bytes: vec![] },
+            1 => Region::Dense(vec![3; 40_000]),
+            _ => Region::Dense(vec![3; 64]),
+        };
+        if self.rng.once_in(3) {
+            return Call::AppendTombstone { region, used, ns, key };
+        }
+        Call::AppendData { region, used, kind, ns, key, value }
+    }
+
+    fn append_data(&mut self) -> Call {
+        if self.rng.once_in(40) {
+            return self.wrong_append();
+        }
+        let (key, value) = (self.run(4096), self.run(32_768));
+        let kind = if self.rng.once_in(40) { self.rng.pick(&[2, 3, 4, 1 << 32, u64::MAX]) } else { self.rng.below(2) };
+        let ns = self.namespace();
+        if self.rng.once_in(60) {
+            let (region, line) = self.sparse();
+            return Call::AppendData { region, used: line as u64, kind, ns, key, value };
+        }
+        let used = self.used();
+        let region = self.append_region(used, (10 + key.len() + value.len()) as u64);
+        Call::AppendData { region, used, kind, ns, key, value }
+    }
+
+    fn append_tombstone(&mut self) -> Call {
+        let (key, ns) = (self.run(4096), self.namespace());
+        if self.rng.once_in(60) {
+            let (region, line) = self.sparse();
+            return Call::AppendTombstone { region, used: line as u64, ns, key };
+        }
+        let used = self.used();
+        let region = self.append_region(used, (8 + key.len()) as u64);
+        Call::AppendTombstone { region, used, ns, key }
+    }
+
+    fn bound(&mut self, length: usize) -> u64 {
+        let length = length as u64;
+        match self.rng.below(30) {
+            0 => self.rng.pick(&[length + 1, length + 15, length + 16, length + 5000, 1 << 63, u64::MAX]),
+            1..=8 => self.rng.below(length + 1),
+            9..=12 => length.saturating_sub(self.rng.below(17)),
+            _ => length,
+        }
+    }
+
+    fn walk(&mut self) -> Call {
+        if self.rng.once_in(60) {
+            let (region, line) = self.sparse();
+            let bound = (line as u64 + self.rng.below(300)).min(region.len() as u64);
+            return Call::Walk { region, bound, offset: line as u64 - self.rng.below(64) };
+        }
+        let region = self.dense();
+        if let Region::Sparse { length, .. } = region {
+            return Call::Walk { region, bound: length as u64, offset: 0 };
+        }
+        let length = region.len() as u64;
+        let bound = self.bound(region.len());
+        let offset = match self.rng.below(20) {
+            0 => length + self.rng.below(40),
+            1 => self.rng.pick(&[u64::MAX, u64::MAX - 15, u64::MAX - 16, u64::MAX - 5000, 1 << 63]),
+            2..=9 => 0,
+            10..=13 => self.entry_line(&region).unwrap_or(0).saturating_sub(self.rng.below(40)),
+            _ => self.rng.below(length + 1),
+        };
+        Call::Walk { region, bound, offset }
+    }
+
+    fn listing(&mut self) -> Call {
+        let region = self.dense();
+        let bound = self.bound(region.len());
+        Call::Listing { region, bound }
+    }
+
+    fn durable_end(&mut self) -> Call {
+        let region = self.dense();
+        let bound = self.bound(region.len());
+        Call::DurableEnd { region, bound }
+    }
+
+    fn part(&mut self) -> Call {
+        let length = self.rng.below(80);
+        let mut number = || if self.rng.once_in(10) { u64::MAX - self.rng.below(40) } else { self.rng.below(60) };
+        let (at, len) = (number(), number());
+        Call::Part { region: Region::Dense(self.rng.bytes(length as usize)), at, len }
+    }
+
+    // ---- checksum, header, boot
+
+    fn hash(&mut self) -> Call {
+        let count = self.rng.pick(&[0, 1, 7, 8, 9, 15, 16, 17, 31, 64, 255, 1000, 4096]) + self.rng.below(20);
+        let bytes = self.rng.bytes(count as usize);
+        match self.rng.below(2) {
+            0 => Call::Hash { bytes },
+            _ => Call::Update { state: self.rng.next() as u16, bytes },
+        }
+    }
+
+    fn head(&mut self) -> Vec<u8> {
+        let mut bytes = vec![0; HEADER];
+        bytes[..8].copy_from_slice(b"LOCKDAT1");
+        bytes[8] = 1;
+        let ordinal = self.rng.next() >> self.rng.below(64);
+        bytes[16..24].copy_from_slice(&ordinal.to_le_bytes());
+        match self.rng.below(8) {
+            0 => bytes[self.rng.below(12) as usize] ^= 1 << self.rng.below(8),
+            1 => bytes[8..12]
+                .copy_from_slice(&self.rng.pick(&[0u32, 2, 0x101, 0x0100_0000, u32::MAX, 0x0002_0003]).to_le_bytes()),
+            2..=3 => {
+                let rest = self.rng.bytes(HEADER - 12);
+                bytes[12..].copy_from_slice(&rest);
+            }
+            _ => {}
+        }
+        bytes
+    }
+
+    fn header(&mut self) -> Call {
+        if self.rng.once_in(3) {
+            let length = if self.rng.once_in(4) { self.rng.below(4200) } else { 4096 + self.rng.below(40) };
+            return Call::WriteHeader { lent: self.rng.bytes(length as usize), ordinal: self.rng.next() };
+        }
+        let mut bytes = self.head();
+        if self.rng.once_in(3) {
+            let length = self.rng.pick(&[0, 8, 24, 4094, 4095, 4097, 5000]);
+            bytes.resize(length, 7);
+        }
+        Call::ReadHeader { bytes }
+    }
+
+    fn boot(&mut self) -> Call {
+        let mut file = self.head();
+        if self.rng.once_in(12) {
+            file.truncate(self.rng.below(4096) as usize);
+        } else {
+            file.extend(self.bytes_of_region());
+        }
+        Call::Boot { file }
+    }
+
+    // ---- replay
+
+    fn around(&mut self, limits: &[u64]) -> u64 {
+        self.rng.pick(limits).saturating_add(self.rng.below(3)).saturating_sub(1)
+    }
+
+    fn replay(&mut self) -> Call {
+        let klen = if self.rng.once_in(2) { self.rng.below(4200) } else { self.around(&[0, 2, 16, 4096, 65_536]) };
+        let vlen = if self.rng.once_in(2) { self.rng.below(34_000) } else { self.around(&[0, 16, 32_768, 65_536]) };
+        let tombstone = self.rng.once_in(3);
+        let size = up16(if tombstone { 8 + klen } else { 10 + klen + vlen });
+        let maximum = match self.rng.below(8) {
+            0 => self.around(&[MAX_REGION as u64, u32::MAX.into(), u64::MAX - 1]),
+            1 => self.rng.next() >> self.rng.below(64),
+            2..=3 => self.rng.below(size + 200),
+            _ => (size + self.rng.below(33)).saturating_sub(16),
+        };
+        if tombstone {
+            Call::ReplayTombstone { klen, maximum }
+        } else {
+            Call::ReplayData { klen, vlen, maximum }
+        }
+    }
+
+    fn start_file(&mut self) -> Call {
+        let count = if self.rng.once_in(3) { self.rng.within(60, 70) } else { self.rng.below(8) };
+        let spread = self.rng.pick(&[3, 10, 100, u64::MAX]);
+        let mut ordinals: Vec<u64> = (0..count).map(|_| self.rng.below(spread)).collect();
+        if self.rng.once_in(2) {
+            ordinals.sort_unstable();
+        }
+        let cursor = if self.rng.once_in(4) { u64::MAX - self.rng.below(2) } else { self.rng.below(spread) };
+        Call::StartFile { ordinals, cursor }
+    }
+
+    // ---- tracker
+
+    fn track(&mut self) -> Call {
+        if self.steps_left == 0 {
+            self.begin_trace();
+        }
+        self.steps_left -= 1;
+        if self.rng.once_in(16) {
+            let state = Box::new(self.unsound_state());
+            self.steps_left = 0;
+            return Call::Track { state, step: self.step() };
+        }
+        Call::Track { state: Box::new(self.trace.clone()), step: self.step() }
+    }
+
+    fn begin_trace(&mut self) {
+        self.steps_left = self.rng.within(5, 120) as u32;
+        self.shards = self.rng.pick(&[1, 2, 3, 16]);
+        self.records = self.rng.pick(&[2, 4, 12]);
+        self.trace = if self.rng.once_in(3) { fresh_state() } else { self.sound_state() };
+    }
+
+    /// A call of one trace, for the recorder: a new trace begins where it says so, and no unsound state comes in.
+    pub fn trace_call(&mut self, begin: bool) -> Call {
+        if begin {
+            self.begin_trace();
+            // Few shards with something in them keep the written states short.
+            self.trace.queues[3..].fill(Vec::new());
+            self.trace.slots[6..].fill(Slot::default());
+        }
+        loop {
+            self.steps_left = self.steps_left.max(2);
+            let call = self.track();
+            match &call {
+                Call::Track { state, .. } if crate::paper::sound(state) => return call,
+                _ => {}
+            }
+        }
+    }
+
+    fn below_next(&mut self, next: u64) -> u64 {
+        match self.rng.below(4) {
+            0 => self.rng.below(next),
+            1 => self.rng.below(next.min(4)),
+            _ => next - 1 - self.rng.below(next.min(40)),
+        }
+    }
+
+    fn sound_state(&mut self) -> State {
+        let mut state = fresh_state();
+        let near_last = u64::MAX - 1 - self.rng.below(40);
+        state.next = self.rng.pick(&[1, 2, 3, 40, 1 << 32, near_last, u64::MAX - 1, u64::MAX]);
+        for shard in 0..16 {
+            if self.rng.once_in(3) && state.next > 1 {
+                let number = self.below_next(state.next);
+                let (ordinal, offset) = (self.rng.below(4), 16 * self.rng.below(8));
+                state.slots[shard] = Slot { number, ordinal, offset };
+            }
+            let most = if state.slots[shard].number == 0 { 32 } else { 31 };
+            let count = self.rng.pick(&[0, 0, 0, 1, 2, 5, most - 1, most]);
+            state.queues[shard] = (0..count).map(|_| (self.below_next(state.next), self.delta().into())).collect();
+            if self.rng.once_in(2) {
+                state.queues[shard].sort_unstable();
+            }
+        }
+        state
+    }
+
+    /// A state that lacks one thing of a sound one.
+    fn unsound_state(&mut self) -> State {
+        let mut state = self.sound_state();
+        let shard = self.rng.below(16) as usize;
+        match self.rng.below(5) {
+            0 => state.next = 0,
+            1 => state.slots[shard].number = state.next,
+            2 => state.queues[shard] = vec![(state.next, 1)],
+            3 => state.queues[shard] = vec![(0, 1); 33],
+            _ => {
+                state.next = state.next.max(2);
+                state.slots[shard].number = 1;
+                state.queues[shard] = vec![(0, 1); 32];
+            }
+        }
+        state
+    }
+
+    fn delta(&mut self) -> i8 {
+        match self.rng.below(6) {
+            0 => 0,
+            1 => self.rng.next() as i8,
+            2 => self.rng.pick(&[127, -128]),
+            _ => self.rng.pick(&[1, 1, -1]),
+        }
+    }
+
+    fn shard(&mut self) -> u64 {
+        if self.rng.once_in(40) {
+            return self.rng.pick(&[16, 17, 1 << 32, u64::MAX]);
+        }
+        self.rng.below(self.shards)
+    }
+
+    /// Mostly a shard whose slot is open, where there is one.
+    fn open_shard(&mut self, other: u64) -> u64 {
+        let open: Vec<u64> = (0..16).filter(|&shard| self.trace.slots[shard as usize].number != 0).collect();
+        if open.is_empty() || other > 15 || self.rng.once_in(4) {
+            other
+        } else {
+            self.rng.pick(&open)
+        }
+    }
+
+    /// Mostly the number that the shard's slot has.
+    fn number_for(&mut self, shard: u64) -> u64 {
+        let held = self.trace.slots[(shard % 16) as usize].number;
+        match self.rng.below(8) {
+            0 => 0,
+            1 => held.wrapping_add(1),
+            2 => self.rng.below(8),
+            _ => held,
+        }
+    }
+
+    fn step(&mut self) -> Step {
+        let shard = self.shard();
+        match self.rng.below(14 + self.records) {
+            0..=3 => self.reserve(shard),
+            4..=6 => {
+                let shard = self.open_shard(shard);
+                Step::Complete { shard, number: self.number_for(shard), delta: self.delta() }
+            }
+            7 => {
+                let shard = self.open_shard(shard);
+                Step::Abandon { shard, number: self.number_for(shard) }
+            }
+            8..=11 => Step::Checkpoint { ordinal: self.rng.below(5), used: self.rng.next() >> self.rng.below(64) },
+            12 if self.rng.once_in(3) => Step::Clear,
+            12..=13 => {
+                let next = self.trace.next;
+                let near = next.wrapping_sub(self.rng.below(20));
+                Step::Drain { limit: self.rng.pick(&[near, near, near, 0, 1, u64::MAX]) }
+            }
+            _ => Step::Record { shard, delta: self.delta() },
+        }
+    }
+
+    /// A reserve with several things wrong at once, for the order of refusals.
+    fn wrong_reserve(&mut self, shard: u64) -> Step {
+        Step::Reserve {
+            shard,
+            ordinal: 1,
+            used: self.rng.pick(&[0, 16, 8, u64::MAX - 15]),
+            capacity: self.rng.pick(&[16, 64, MAX_REGION as u64 + 1]),
+            sealed: self.rng.once_in(3),
+            length: self.rng.pick(&[0, 8, 16, 64]),
+        }
+    }
+
+    fn reserve(&mut self, shard: u64) -> Step {
+        if self.rng.once_in(8) {
+            return self.wrong_reserve(shard);
+        }
+        let used = match self.rng.below(20) {
+            0 => self.rng.below(200),
+            1 => u64::MAX - 15 - 16 * self.rng.below(4),
+            _ => 16 * self.rng.below(40),
+        };
+        let length = match self.rng.below(20) {
+            0 => self.rng.below(40),
+            1 => self.rng.pick(&[0, u64::MAX - 15, 1 << 63, u64::MAX]),
+            _ => 16 * self.rng.within(1, 6),
+        };
+        let end = used.saturating_add(length);
+        let capacity = match self.rng.below(12) {
+            0 => end.saturating_sub(1),
+            1 => end,
+            2 => self.rng.pick(&[MAX_REGION as u64, MAX_REGION as u64 + 1, u32::MAX.into(), 1 << 40, u64::MAX]),
+            3 => self.rng.below(1000),
+            _ => MAX_REGION as u64,
+        };
+        Step::Reserve { shard, ordinal: self.rng.below(4), used, capacity, sealed: self.rng.once_in(16), length }
+    }
+}

@@ -1,0 +1,419 @@
+//! Inputs that are the same in every run: short ones, all of them, and every limit with its neighbours.
+use crate::{
+    calls::{up16, Call, Region, Slot, State, Step, HEADER, MAX_REGION},
+    draw::{entry, fresh_state, mark, put, MARK_ZERO},
+};
+
+type Calls = Box<dyn Iterator<Item = Call>>;
+
+fn region(bytes: Vec<u8>) -> Region {
+    Region::Dense(bytes)
+}
+
+/// Every string of at most two bytes.
+fn sums() -> Calls {
+    let one = (0..256u32).map(|a| vec![a as u8]);
+    let two = (0..65_536u32).map(|ab| ab.to_le_bytes()[..2].to_vec());
+    Box::new(std::iter::once(vec![]).chain(one).chain(two).map(|bytes| Call::Hash { bytes }))
+}
+
+/// Every checksum on the least tombstone and, at each 16th, on the least data entry: one of 65,536 verifies.
+fn all_sums_of_one_entry() -> Calls {
+    let tombstone = (0..65_536u32).map(|sum| {
+        let mut bytes = entry(0, 2, 1, true, &[], &[]);
+        bytes[6..8].copy_from_slice(&(sum as u16).to_le_bytes());
+        Call::Walk { region: region(bytes), bound: 8, offset: 0 }
+    });
+    let data = (0..65_536u32).step_by(16).flat_map(|low| {
+        let right = entry(0, 0, 1, false, &[], &[]);
+        let sum = low as u16 | u16::from(right[8] & 15);
+        let mut bytes = right;
+        bytes[8..10].copy_from_slice(&sum.to_le_bytes());
+        [
+            Call::ReadAt { region: region(bytes.clone()), place: 0, hint: 10 },
+            Call::Walk { region: region(bytes), bound: 10, offset: 0 },
+        ]
+    });
+    Box::new(tombstone.chain(data))
+}
+
+/// Every type and namespace in both layouts, with a right checksum and with a wrong one.
+fn words() -> Calls {
+    Box::new((0..1024u32).flat_map(|word| {
+        let (kind, ns, tombstone, wrong) = (word & 3, word >> 2 & 63, word >> 8 & 1 == 1, word >> 9 == 1);
+        let mut bytes = entry(0, kind, ns, tombstone, b"k", b"v");
+        if wrong {
+            bytes[5] ^= 0x80;
+        }
+        let place = Call::ReadAt { region: region(bytes.clone()), place: 0, hint: 512 };
+        let bound = bytes.len() as u64;
+        [place, Call::Walk { region: region(bytes), bound, offset: 0 }]
+    }))
+}
+
+/// Short regions of a few patterns with every bound and offset, one past the end too.
+fn short_walks() -> Calls {
+    Box::new((0..5u32).flat_map(|pattern| {
+        (0..=34usize).flat_map(move |length| {
+            let mut bytes = vec![0; length];
+            match pattern {
+                1 => put(&mut bytes, 0, &entry(0, 0, 1, false, b"A7", b"9")),
+                2 => put(&mut bytes, 16, &entry(16, 2, 1, true, &[], &[])),
+                3 => {
+                    put(&mut bytes, 0, &entry(0, 1, 1, false, b"A7", b"9")[..12]);
+                    put(&mut bytes, 16, &entry(16, 3, 1, false, &[], &[]));
+                }
+                4 => {
+                    put(&mut bytes, 0, &entry(0, 2, 9, true, b"nested", &[]));
+                    put(&mut bytes, 16, &entry(16, 1, 1, false, &[], b"12345678"));
+                }
+                _ => {}
+            }
+            let n = length as u64;
+            let walks = (0..=n + 1).flat_map(move |bound| (0..=n + 1).map(move |offset| (bound, offset)));
+            let kept = bytes.clone();
+            let ends = (0..=n + 1).map(move |bound| Call::DurableEnd { region: region(kept.clone()), bound });
+            walks.map(move |(bound, offset)| Call::Walk { region: region(bytes.clone()), bound, offset }).chain(ends)
+        })
+    }))
+}
+
+/// One byte that isn't zero, at every place of every short region; and none.
+fn short_bounds() -> Calls {
+    Box::new((0..=66usize).flat_map(|length| {
+        (0..=length).map(move |at| {
+            let mut bytes = vec![0; length];
+            put(&mut bytes, at, &[1]);
+            Call::UsedBound { region: region(bytes) }
+        })
+    }))
+}
+
+/// A data entry read from every place near it with every hint.
+fn short_reads() -> Calls {
+    Box::new((0..=32usize).flat_map(|length| {
+        let mut bytes = vec![0; length];
+        put(&mut bytes, 0, &entry(0, 0, 1, false, b"A7", b"9"));
+        put(&mut bytes, 16, &entry(16, 1, 63, false, &[], b"1"));
+        (0..=length as u64 + 17).flat_map(move |place| {
+            let bytes = bytes.clone();
+            let hints = (0..=20).chain([u64::MAX >> 1, 1 << 63, u64::MAX]);
+            hints.map(move |hint| Call::ReadAt { region: region(bytes.clone()), place, hint })
+        })
+    }))
+}
+
+/// Small appends at every used count of every short region.
+fn short_appends() -> Calls {
+    Box::new((0..=50usize).flat_map(|length| {
+        (0..=length as u64 + 17).filter(|used| used % 16 < 2).flat_map(move |used| {
+            (0..=8usize).flat_map(move |klen| {
+                let (lent, key) = (region(vec![7; length]), vec![b'k'; klen]);
+                let tombstone = Call::AppendTombstone { region: lent.clone(), used, ns: 1, key: key.clone() };
+                let data = [0usize, 1, 6].map(|vlen| Call::AppendData {
+                    region: lent.clone(),
+                    used,
+                    kind: vlen as u64 % 2,
+                    ns: 63,
+                    key: key.clone(),
+                    value: vec![b'v'; vlen],
+                });
+                std::iter::once(tombstone).chain(data)
+            })
+        })
+    }))
+}
+
+/// Three appends in a row, over every order of the three types, read, walked and bounded after each.
+fn small_logs() -> Calls {
+    Box::new((0..27usize).flat_map(|order| {
+        let mut bytes = vec![0; 64];
+        let mut p = 0;
+        for kind in [order % 3, order / 3 % 3, order / 9] {
+            let written = entry(p, kind as u32, 1, kind == 2, b"A7", if kind == 1 { b"10" } else { b"9" });
+            put(&mut bytes, p, &written);
+            p += up16(written.len() as u64) as usize;
+        }
+        let lent = region(bytes);
+        let reads = (0..4u64).map(|line| Call::ReadAt { region: lent.clone(), place: 16 * line, hint: 512 });
+        let mut calls: Vec<Call> = reads.collect();
+        calls.push(Call::Listing { region: lent.clone(), bound: 64 });
+        calls.push(Call::DurableEnd { region: lent.clone(), bound: 64 });
+        calls.push(Call::UsedBound { region: lent });
+        calls
+    }))
+}
+
+/// Every trace of three calls over a small alphabet, on two shards, from a fresh tracker and from one near the last number.
+fn short_traces() -> Vec<(State, Vec<Step>)> {
+    let reserve =
+        |shard, ordinal, used| Step::Reserve { shard, ordinal, used, capacity: 4096, sealed: false, length: 16 };
+    let alphabet = [
+        reserve(0, 2, 0),
+        reserve(1, 1, 32),
+        Step::Record { shard: 0, delta: 3 },
+        Step::Record { shard: 1, delta: 0 },
+        Step::Complete { shard: 0, number: 1, delta: 1 },
+        Step::Complete { shard: 1, number: 2, delta: -1 },
+        Step::Complete { shard: 0, number: 0, delta: 1 },
+        Step::Abandon { shard: 0, number: 1 },
+        Step::Checkpoint { ordinal: 3, used: 48 },
+        Step::Drain { limit: 2 },
+        Step::Drain { limit: u64::MAX },
+        Step::Clear,
+    ];
+    let near_end = State { next: u64::MAX - 2, ..fresh_state() };
+    let mut traces = Vec::new();
+    for start in [fresh_state(), near_end] {
+        for code in 0..12 * 12 * 12 {
+            let steps = [code % 12, code / 12 % 12, code / 144].map(|i| alphabet[i].clone()).to_vec();
+            traces.push((start.clone(), steps));
+        }
+    }
+    traces
+}
+
+/// The queue of one shard filled from empty, with its slot idle and open, and every call at each length.
+fn full_queues() -> Calls {
+    Box::new((0..=32usize).flat_map(|count| {
+        [0u64, 1].into_iter().flat_map(move |number| {
+            let mut state = State { next: 50, ..fresh_state() };
+            state.queues[0] = (0..count).map(|i| (i as u64 + 2, 1)).collect();
+            state.slots[0] = Slot { number, ordinal: 1, offset: 16 };
+            let steps = vec![
+                Step::Reserve { shard: 0, ordinal: 1, used: 0, capacity: 64, sealed: false, length: 16 },
+                Step::Record { shard: 0, delta: 1 },
+                Step::Complete { shard: 0, number: 1, delta: 1 },
+                Step::Abandon { shard: 0, number: 1 },
+                Step::Checkpoint { ordinal: 1, used: 0 },
+                Step::Drain { limit: 20 },
+            ];
+            steps.into_iter().map(move |step| Call::Track { state: Box::new(state.clone()), step })
+        })
+    }))
+}
+
+/// Space: used count, length and capacity around each other, and around 2^64.
+fn reserve_limits() -> Calls {
+    let numbers = [0, 1, 15, 16, 17, 32, 48, 1 << 63, u64::MAX - 31, u64::MAX - 15, u64::MAX];
+    let capacities = [0, 15, 16, 31, 32, 48, 49, MAX_REGION as u64, MAX_REGION as u64 + 1, u32::MAX.into(), u64::MAX];
+    Box::new(numbers.into_iter().flat_map(move |used| {
+        numbers.into_iter().flat_map(move |length| {
+            capacities.into_iter().flat_map(move |capacity| {
+                [false, true].map(|sealed| Call::Track {
+                    state: Box::new(fresh_state()),
+                    step: Step::Reserve { shard: 15, ordinal: 7, used, capacity, sealed, length },
+                })
+            })
+        })
+    }))
+}
+
+fn header_limits() -> Calls {
+    let mut head = vec![0; HEADER];
+    head[..9].copy_from_slice(b"LOCKDAT1\x01");
+    head[16..24].copy_from_slice(&u64::MAX.to_le_bytes());
+    let kept = head.clone();
+    let lengths = [0, 1, 24, 4094, 4095, 4096, 4097, 8192].map(|length| {
+        let mut bytes = kept.clone();
+        bytes.resize(length, 9);
+        Call::ReadHeader { bytes }
+    });
+    let bits = (0..4096 / 8).chain(32_760..32_768).map(move |bit: usize| {
+        let mut bytes = head.clone();
+        bytes[bit / 8] ^= 1 << (bit % 8);
+        Call::ReadHeader { bytes }
+    });
+    let writes =
+        [0, 1, 4095, 4096, 4097, 5000].map(|length| Call::WriteHeader { lent: vec![9; length], ordinal: u64::MAX - 1 });
+    Box::new(lengths.into_iter().chain(bits).chain(writes))
+}
+
+fn append_limits() -> Calls {
+    let lent = |length: usize| region(vec![1; length]);
+    let mut calls = Vec::new();
+    for klen in [0, 1, 4095, 4096, 4097, 65_535, 65_536, 65_537] {
+        calls.push(Call::AppendTombstone { region: lent(70_000), used: 16, ns: 63, key: vec![2; klen] });
+        for vlen in [0, 1, 32_767, 32_768, 32_769, 65_535, 65_536, 65_537] {
+            calls.push(Call::AppendData {
+                region: lent(140_000),
+                used: 0,
+                kind: 1,
+                ns: 0,
+                key: vec![2; klen],
+                value: vec![3; vlen],
+            });
+        }
+    }
+    for ns in [0, 63, 64, 255, 256, u64::MAX] {
+        calls.push(Call::AppendTombstone { region: lent(64), used: 0, ns, key: vec![] });
+        for kind in [0, 1, 2, 3, 4, u64::MAX] {
+            calls.push(Call::AppendData { region: lent(64), used: 0, kind, ns, key: vec![], value: vec![] });
+        }
+    }
+    // The largest writable entry, and one byte of room too few.
+    for length in [36_879, 36_880, 36_881] {
+        let (key, value) = (vec![4; 4096], vec![5; 32_768]);
+        calls.push(Call::AppendData { region: lent(length), used: 0, kind: 0, ns: 1, key, value });
+    }
+    for used in [u64::MAX, u64::MAX - 15, u64::MAX - 31, 1 << 63, 48, 64, 80] {
+        calls.push(Call::AppendTombstone { region: lent(64), used, ns: 1, key: vec![] });
+        calls.push(Call::AppendData { region: lent(64), used, kind: 0, ns: 1, key: vec![], value: vec![] });
+    }
+    Box::new(calls.into_iter())
+}
+
+fn place_limits() -> Calls {
+    let bytes = entry(0, 0, 1, false, b"k", b"v");
+    let last = (1u64 << 63) - 4096;
+    let places =
+        [0, 1, 16, last - 16, last, last + 16, 1 << 63, u64::MAX - 4111, u64::MAX - 4095, u64::MAX - 15, u64::MAX];
+    let hints = [0, 7, 8, 11, 12, 13, 1 << 40, (1 << 63) - 1, 1 << 63, u64::MAX];
+    // An entry one byte past a line, whose mark is that line's: the original reads it.
+    let past_a_line = [&[0], &bytes[..]].concat();
+    let off_line = Call::ReadAt { region: region(past_a_line), place: 1, hint: 12 };
+    let limits = places.into_iter().flat_map(move |place| {
+        let bytes = bytes.clone();
+        hints.into_iter().map(move |hint| Call::ReadAt { region: region(bytes.clone()), place, hint })
+    });
+    Box::new(std::iter::once(off_line).chain(limits))
+}
+
+/// Entries of every length of two bytes at which something changes, whole and one byte short, behind an offset.
+fn long_entries() -> Calls {
+    let lengths = [(0, 65_535), (65_535, 0), (65_535, 65_535), (4097, 32_769), (40_000, 60_000), (0, 32_768)];
+    Box::new(lengths.into_iter().flat_map(|(klen, vlen)| {
+        [0usize, 16, 131_056].into_iter().flat_map(move |p| {
+            let whole = entry(p, 1, 3, false, &vec![6; klen], &vec![7; vlen]);
+            [0usize, 1].into_iter().flat_map(move |short| {
+                let mut bytes = vec![0; p];
+                bytes.extend(&whole[..whole.len() - short]);
+                let (lent, n) = (region(bytes.clone()), (p + whole.len() - short) as u64);
+                [
+                    Call::Walk { region: lent.clone(), bound: n, offset: 0 },
+                    Call::ReadAt { region: lent.clone(), place: p as u64, hint: 200_000 },
+                    Call::DurableEnd { region: lent, bound: n },
+                ]
+            })
+        })
+    }))
+}
+
+/// The largest region, one byte more and one less, and the place where the mark is 0.
+fn large_regions() -> Calls {
+    let mut calls = Vec::new();
+    for length in [MAX_REGION - 1, MAX_REGION, MAX_REGION + 1, MARK_ZERO + 8, MARK_ZERO + 64] {
+        let bytes = entry(MARK_ZERO, 0, 1, false, b"k", b"v");
+        for bytes in [vec![0; 8], bytes.clone(), [&[0; 3], &bytes[3..]].concat(), vec![0, 0, 0, 0xc0]] {
+            let bytes = bytes[..bytes.len().min(length - MARK_ZERO)].to_vec();
+            let lent = Region::Sparse { length, at: MARK_ZERO, bytes };
+            let p = MARK_ZERO as u64;
+            calls.push(Call::Walk { region: lent.clone(), bound: (p + 64).min(length as u64), offset: p - 17 });
+            calls.push(Call::ReadAt { region: lent.clone(), place: p, hint: 512 });
+            calls.push(Call::AppendData { region: lent.clone(), used: p, kind: 0, ns: 0, key: vec![], value: vec![] });
+            calls.push(Call::AppendTombstone { region: lent, used: p, ns: 0, key: b"key".to_vec() });
+        }
+    }
+    let too_large = Region::Sparse { length: MAX_REGION + 1, at: 0, bytes: vec![] };
+    calls.push(Call::UsedBound { region: too_large.clone() });
+    calls.push(Call::DurableEnd { region: too_large, bound: MAX_REGION as u64 + 1 });
+    let last = MAX_REGION - 16;
+    let flush = Region::Sparse { length: MAX_REGION, at: last, bytes: entry(last, 2, 1, true, b"A7", &[]) };
+    let n = MAX_REGION as u64;
+    calls.push(Call::Walk { region: flush.clone(), bound: n, offset: n - 40 });
+    calls.push(Call::UsedBound { region: flush.clone() });
+    calls.push(Call::DurableEnd { region: flush, bound: n });
+    let zero = Region::Sparse { length: MAX_REGION, at: MARK_ZERO, bytes: entry(MARK_ZERO, 1, 0, false, &[], &[]) };
+    calls.push(Call::UsedBound { region: zero.clone() });
+    calls.push(Call::DurableEnd { region: zero.clone(), bound: MARK_ZERO as u64 + 16 });
+    calls.push(Call::Walk { region: zero, bound: n, offset: MARK_ZERO as u64 + 1 });
+    Box::new(calls.into_iter())
+}
+
+fn replay_limits() -> Calls {
+    let maxima = |size: u64| {
+        [
+            0,
+            size.saturating_sub(16),
+            size - 1,
+            size,
+            size + 1,
+            MAX_REGION as u64,
+            MAX_REGION as u64 + 1,
+            u32::MAX.into(),
+            1 << 32,
+            u64::MAX,
+        ]
+    };
+    let klens = [0, 1, 5, 6, 7, 8, 9, 4095, 4096, 4097, 65_535];
+    Box::new(klens.into_iter().flat_map(move |klen| {
+        let tombstones = maxima(up16(8 + klen)).map(|maximum| Call::ReplayTombstone { klen, maximum });
+        let data = [0, 1, 6, 32_767, 32_768, 32_769, 65_535].into_iter().flat_map(move |vlen| {
+            maxima(up16(10 + klen + vlen)).map(|maximum| Call::ReplayData { klen, vlen, maximum })
+        });
+        tombstones.into_iter().chain(data)
+    }))
+}
+
+/// Every list of at most four ordinals below 3, every cursor; and lists of 63 to 66.
+fn start_lists() -> Calls {
+    let short = (0..=4u32).flat_map(|count| {
+        (0..3u64.pow(count)).flat_map(move |code| {
+            let ordinals: Vec<u64> = (0..count).map(|i| code / 3u64.pow(i) % 3).collect();
+            (0..4).map(move |cursor| Call::StartFile { ordinals: ordinals.clone(), cursor })
+        })
+    });
+    let long = (63..=66u64).flat_map(|count| {
+        [0, 62, 63, 64, 65, u64::MAX].map(|cursor| Call::StartFile { ordinals: (0..count).collect(), cursor })
+    });
+    Box::new(short.chain(long))
+}
+
+/// Marks one off, at the first lines.
+fn wrong_marks() -> Calls {
+    Box::new((0..24u32).flat_map(|bit| {
+        [0usize, 16, 32].map(|p| {
+            let mut bytes = vec![0; p];
+            bytes.extend(entry(p, 0, 1, false, b"k", &[]));
+            let word = (mark(p) ^ 1 << bit) | 1 << 24;
+            bytes[p..p + 4].copy_from_slice(&word.to_le_bytes());
+            Call::Walk { bound: bytes.len() as u64, region: region(bytes), offset: 0 }
+        })
+    }))
+}
+
+/// All calls that stand for themselves.
+pub fn calls() -> impl Iterator<Item = Call> {
+    let groups: Vec<Calls> = vec![
+        large_regions(),
+        header_limits(),
+        append_limits(),
+        place_limits(),
+        long_entries(),
+        replay_limits(),
+        start_lists(),
+        wrong_marks(),
+        words(),
+        small_logs(),
+        full_queues(),
+        reserve_limits(),
+        short_bounds(),
+        short_reads(),
+        short_appends(),
+        short_walks(),
+        all_sums_of_one_entry(),
+        sums(),
+    ];
+    groups.into_iter().flatten()
+}
+
+/// Traces, which go on from the state that each call leaves.
+pub fn traces() -> Vec<(State, Vec<Step>)> {
+    short_traces()
+}
+
+/// How many calls these are.
+pub fn count() -> u64 {
+    let steps: usize = traces().iter().map(|(_, steps)| steps.len()).sum();
+    (calls().count() + steps) as u64
+}

@@ -1,0 +1,315 @@
+//! The proved library, called through its C interface. A call that refuses has to leave its out parameters and the lent
+//! bytes alone, which is looked at here: an answer that doesn't keep to it gets a number that no table has.
+use crate::{
+    calls::{Call, Region, Said, HEADER, MAX_REGION},
+    paper::Paper,
+};
+
+mod exports;
+
+pub use exports::stand_ins;
+
+#[derive(Clone, Copy, PartialEq, Eq)]
+#[repr(C)]
+struct Entry([u64; 8]);
+
+extern "C" {
+    fn locker_hash(bytes: *const u8, length: usize) -> u16;
+    fn locker_update(state: u16, bytes: *const u8, length: usize) -> u16;
+    fn locker_read_header(header: *const u8, length: usize, ordinal: *mut u64) -> u32;
+    fn locker_write_header(lent: *mut u8, length: usize, ordinal: u64) -> u32;
+    fn locker_read_at(region: *const u8, length: usize, p: usize, hint: usize, entry: *mut Entry) -> u32;
+    fn locker_append_data(
+        region: *mut u8,
+        length: usize,
+        used: usize,
+        kind: u64,
+        ns: u64,
+        key: *const u8,
+        klen: usize,
+        value: *const u8,
+        vlen: usize,
+        next: *mut u64,
+    ) -> u32;
+    fn locker_append_tombstone(
+        region: *mut u8,
+        length: usize,
+        used: usize,
+        ns: u64,
+        key: *const u8,
+        klen: usize,
+        next: *mut u64,
+    ) -> u32;
+    fn locker_walk(
+        region: *const u8,
+        length: usize,
+        bound: usize,
+        offset: usize,
+        entry: *mut Entry,
+        found: *mut u64,
+        place: *mut u64,
+    ) -> u32;
+    fn locker_part(region: *const u8, length: usize, at: usize, len: usize, start: *mut u64, count: *mut u64);
+    fn locker_used_bound(region: *const u8, length: usize, bound: *mut u64) -> u32;
+    fn locker_durable_end(region: *const u8, length: usize, bound: usize, end: *mut u64, place: *mut u64) -> u32;
+}
+
+/// What out parameters hold before a call.
+const UNTOUCHED: u64 = 0x5555_aaaa_1234_fedc;
+/// The number of an answer that wrote where it shouldn't have.
+const WROTE: u32 = 900;
+
+/// One side of the comparison.
+pub trait Side {
+    fn say(&mut self, call: &Call) -> Said;
+}
+
+pub struct Library {
+    /// Zeros, as many as the largest region has and some more. Only touched pages take memory.
+    big: Vec<u8>,
+    /// Document 01 written out as a program, for the operations that the library doesn't export yet.
+    paper: Paper,
+}
+
+/// The part of a sparse region that a call can change or that holds its bytes, with some bytes around it.
+pub fn window(region: &Region, used: u64, length: u64) -> std::ops::Range<usize> {
+    let Region::Sparse { length: total, at, bytes } = region else { return 0..region.len() };
+    let mut low = *at;
+    let mut high = at + bytes.len();
+    if used < *total as u64 {
+        low = low.min(used as usize);
+        high = high.max(used.saturating_add(length) as usize);
+    }
+    low.saturating_sub(64)..high.saturating_add(64).min(*total)
+}
+
+fn part_of(region: &[u8], at: u64, len: u64) -> &[u8] {
+    let (mut start, mut count) = (UNTOUCHED, UNTOUCHED);
+    // SAFETY: the library's contract: any numbers, a region of that length, two numbers to write to.
+    unsafe { locker_part(region.as_ptr(), region.len(), at as usize, len as usize, &mut start, &mut count) };
+    &region[start as usize..(start + count) as usize]
+}
+
+/// A read of the library on a region that it must not change, small ones looked at afterwards.
+fn reading(region: &[u8], call: impl FnOnce(&[u8]) -> Said) -> Said {
+    let kept = (region.len() <= 8192).then(|| region.to_vec());
+    let said = call(region);
+    match kept {
+        Some(kept) if kept != region => Said::refused(WROTE),
+        _ => said,
+    }
+}
+
+fn read_at(region: &[u8], place: u64, hint: u64) -> Said {
+    let mut entry = Entry([UNTOUCHED; 8]);
+    // SAFETY: as above.
+    let number = unsafe { locker_read_at(region.as_ptr(), region.len(), place as usize, hint as usize, &mut entry) };
+    if number != 0 {
+        return Said::refused(if entry == Entry([UNTOUCHED; 8]) { number } else { WROTE });
+    }
+    let e = entry.0;
+    let bytes = [part_of(region, e[6], e[3]), part_of(region, e[5], e[4])].concat();
+    Said { values: e.to_vec(), bytes, ..Default::default() }
+}
+
+fn walk(region: &[u8], bound: u64, offset: u64) -> Said {
+    let mut entry = Entry([UNTOUCHED; 8]);
+    let (mut found, mut place) = (UNTOUCHED, UNTOUCHED);
+    // SAFETY: as above.
+    let number = unsafe {
+        locker_walk(region.as_ptr(), region.len(), bound as usize, offset as usize, &mut entry, &mut found, &mut place)
+    };
+    let entry_left = entry == Entry([UNTOUCHED; 8]);
+    match number {
+        10 if entry_left && found == UNTOUCHED => Said { number, values: vec![place], ..Default::default() },
+        0 if found == 0 && entry_left && place == UNTOUCHED => Said::values(&[0]),
+        0 if found == 1 && place == UNTOUCHED => {
+            let e = entry.0;
+            let mut values = vec![1];
+            values.extend(e);
+            Said {
+                values,
+                bytes: [part_of(region, e[6], e[3]), part_of(region, e[5], e[4])].concat(),
+                ..Default::default()
+            }
+        }
+        1..=9 | 11.. if entry_left && found == UNTOUCHED && place == UNTOUCHED => Said::refused(number),
+        _ => Said::refused(WROTE),
+    }
+}
+
+/// The walk repeated by `step`, from 0 until End or a refusal.
+pub fn listing(mut step: impl FnMut(u64) -> Said) -> Said {
+    let mut all = Said::default();
+    let mut offset = 0;
+    loop {
+        let said = step(offset);
+        all.number = said.number;
+        all.values.extend(&said.values);
+        all.bytes.extend(&said.bytes);
+        if said.number != 0 || said.values[0] == 0 {
+            return all;
+        }
+        offset = said.values[8];
+    }
+}
+
+fn used_bound(region: &[u8]) -> Said {
+    let mut bound = UNTOUCHED;
+    // SAFETY: as above.
+    match unsafe { locker_used_bound(region.as_ptr(), region.len(), &mut bound) } {
+        0 => Said::values(&[bound]),
+        number if bound == UNTOUCHED => Said::refused(number),
+        _ => Said::refused(WROTE),
+    }
+}
+
+fn durable_end(region: &[u8], bound: u64) -> Said {
+    let (mut end, mut place) = (UNTOUCHED, UNTOUCHED);
+    // SAFETY: as above.
+    match unsafe { locker_durable_end(region.as_ptr(), region.len(), bound as usize, &mut end, &mut place) } {
+        0 if place == UNTOUCHED => Said::values(&[end]),
+        10 if end == UNTOUCHED => Said { number: 10, values: vec![place], ..Default::default() },
+        number if number != 0 && end == UNTOUCHED && place == UNTOUCHED => Said::refused(number),
+        _ => Said::refused(WROTE),
+    }
+}
+
+fn read_header(bytes: &[u8]) -> Said {
+    let mut ordinal = UNTOUCHED;
+    // SAFETY: as above.
+    match unsafe { locker_read_header(bytes.as_ptr(), bytes.len(), &mut ordinal) } {
+        0 => Said::values(&[ordinal]),
+        number if ordinal == UNTOUCHED => Said::refused(number),
+        _ => Said::refused(WROTE),
+    }
+}
+
+/// Header, then used bound, then durable end, as include/locker_log.h shows a boot.
+fn boot(file: &[u8]) -> Said {
+    let head = read_header(file);
+    if head.number != 0 {
+        return head;
+    }
+    let region = &file[HEADER..];
+    let bound = used_bound(region);
+    if bound.number != 0 {
+        return bound;
+    }
+    let end = durable_end(region, bound.values[0]);
+    if end.number != 0 {
+        return Said::refused(end.number);
+    }
+    Said::values(&[head.values[0], bound.values[0], end.values[0]])
+}
+
+impl Library {
+    pub fn new() -> Self {
+        Library { big: vec![0; MAX_REGION + 4096], paper: Paper::plain() }
+    }
+
+    /// Lends a region to a call, and puts a sparse one back to zeros afterwards.
+    fn lend(&mut self, region: &Region, window: std::ops::Range<usize>, call: impl FnOnce(&mut [u8]) -> Said) -> Said {
+        match region {
+            Region::Dense(bytes) => call(&mut bytes.clone()),
+            Region::Sparse { length, at, bytes } => {
+                self.big[*at..at + bytes.len()].copy_from_slice(bytes);
+                let said = call(&mut self.big[..*length]);
+                self.big[window].fill(0);
+                said
+            }
+        }
+    }
+
+    fn append(
+        &mut self,
+        region: &Region,
+        used: u64,
+        length: u64,
+        write: impl FnOnce(&mut [u8], &mut u64) -> u32,
+    ) -> Said {
+        let window = window(region, used, length);
+        self.lend(region, window.clone(), |lent| {
+            let mut next = UNTOUCHED;
+            let number = write(lent, &mut next);
+            let bytes = lent[window].to_vec();
+            match number {
+                0 => Said { values: vec![next], bytes, ..Default::default() },
+                number if next == UNTOUCHED => Said { number, bytes, ..Default::default() },
+                _ => Said::refused(WROTE),
+            }
+        })
+    }
+
+    fn look(&mut self, region: &Region, call: impl FnOnce(&[u8]) -> Said) -> Said {
+        let window = window(region, u64::MAX, 0);
+        self.lend(region, window, |lent| reading(lent, call))
+    }
+}
+
+impl Side for Library {
+    fn say(&mut self, call: &Call) -> Said {
+        match call {
+            // SAFETY (all of these): the library's contract: any bytes, any numbers, and places to write to.
+            Call::Hash { bytes } => Said::values(&[unsafe { locker_hash(bytes.as_ptr(), bytes.len()) }.into()]),
+            Call::Update { state, bytes } => {
+                Said::values(&[unsafe { locker_update(*state, bytes.as_ptr(), bytes.len()) }.into()])
+            }
+            Call::ReadHeader { bytes } => reading(bytes, read_header),
+            Call::WriteHeader { lent, ordinal } => {
+                let mut bytes = lent.clone();
+                let number = unsafe { locker_write_header(bytes.as_mut_ptr(), bytes.len(), *ordinal) };
+                Said { number, bytes, ..Default::default() }
+            }
+            Call::ReadAt { region, place, hint } => self.look(region, |lent| read_at(lent, *place, *hint)),
+            Call::AppendData { region, used, kind, ns, key, value } => {
+                let length = up(10 + key.len() + value.len());
+                self.append(region, *used, length, |lent, next| unsafe {
+                    locker_append_data(
+                        lent.as_mut_ptr(),
+                        lent.len(),
+                        *used as usize,
+                        *kind,
+                        *ns,
+                        key.as_ptr(),
+                        key.len(),
+                        value.as_ptr(),
+                        value.len(),
+                        next,
+                    )
+                })
+            }
+            Call::AppendTombstone { region, used, ns, key } => {
+                self.append(region, *used, up(8 + key.len()), |lent, next| unsafe {
+                    locker_append_tombstone(
+                        lent.as_mut_ptr(),
+                        lent.len(),
+                        *used as usize,
+                        *ns,
+                        key.as_ptr(),
+                        key.len(),
+                        next,
+                    )
+                })
+            }
+            Call::Walk { region, bound, offset } => self.look(region, |lent| walk(lent, *bound, *offset)),
+            Call::Listing { region, bound } => self.look(region, |lent| listing(|offset| walk(lent, *bound, offset))),
+            Call::Part { region, at, len } => self.look(region, |lent| {
+                let part = part_of(lent, *at, *len);
+                let start = (part.as_ptr() as usize - lent.as_ptr() as usize) as u64;
+                Said { values: vec![start, part.len() as u64], bytes: part.to_vec(), ..Default::default() }
+            }),
+            Call::UsedBound { region } => self.look(region, used_bound),
+            Call::DurableEnd { region, bound } => self.look(region, |lent| durable_end(lent, *bound)),
+            Call::Boot { file } => boot(file),
+            Call::Track { state, step } => exports::track(&mut self.paper, state, step),
+            Call::ReplayData { klen, vlen, maximum } => exports::replay_data(&mut self.paper, *klen, *vlen, *maximum),
+            Call::ReplayTombstone { klen, maximum } => exports::replay_tombstone(&mut self.paper, *klen, *maximum),
+            Call::StartFile { ordinals, cursor } => exports::start_file(&mut self.paper, ordinals, *cursor),
+        }
+    }
+}
+
+fn up(length: usize) -> u64 {
+    crate::calls::up16(length as u64)
+}

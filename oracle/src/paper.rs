@@ -1,0 +1,666 @@
+//! Document 01 written out as a plain program: a third opinion, and the place where `oracle/awake` plants its slips. With
+//! no slip it has to agree with the original as the library does.
+use crate::{
+    calls::{eight, up16, Call, Region, Said, Slot, State, Step, HEADER, MAX_REGION},
+    library::{listing, window, Side},
+};
+
+/// Every slip that can be planted: its name, and what a program with it does.
+pub const SLIPS: &[(&str, &str)] = &[
+    ("sum-start-zero", "the checksum starts at 0 instead of 0xffff"),
+    ("header-version-low-byte", "only the version's lowest byte is compared"),
+    ("header-signature-unread", "the signature isn't compared"),
+    ("header-ordinal-half", "the ordinal's upper half is lost"),
+    ("header-rest-unwritten", "the header's last 4,072 bytes aren't zeroed"),
+    ("header-writes-on", "the header writer zeroes one byte too many"),
+    ("read-type-first", "read: the type is checked before the checksum"),
+    ("read-length-first", "read: the entry's length is checked before its mark"),
+    ("read-hint-ignored", "read: the hint isn't kept to"),
+    ("read-hint-off-by-one", "read: one byte more than the hint is looked at"),
+    ("read-type-told", "read: an update is told as an update"),
+    ("read-line-late", "read: a place off a line gets 6 before 5"),
+    ("read-swapped", "read: key length and value length are swapped"),
+    ("append-fill-zero", "append: the filling is 0 instead of 0xff"),
+    ("append-fill-missing", "append: the filling isn't written"),
+    ("append-mark-next", "append: the mark is that of the entry's end"),
+    ("append-sum-swapped", "append: the checksum's two bytes are swapped"),
+    ("append-key-first", "append: the key is written before the value"),
+    ("append-order-swapped", "append: 12 is given before 11"),
+    ("append-namespace-late", "append: 17 is given after the lengths"),
+    ("append-room-off-by-one", "append: an entry flush with the region's end gets 13"),
+    ("append-unrounded", "append: the new used count isn't rounded up"),
+    ("append-key-limit", "append: a key of 4,096 bytes gets 11"),
+    ("mark-unreduced", "the mark isn't taken modulo 2^24"),
+    ("walk-stops", "walk: stops at the first bad checksum"),
+    ("walk-jumps", "walk: leaves a bad entry by its length instead of by a line"),
+    ("walk-end-rounded", "walk: the entry's end is rounded up"),
+    ("walk-within-bound", "walk: an entry has to lie within the bound instead of the region"),
+    ("walk-needs-ten", "walk: ends with fewer than 10 bytes left instead of 8"),
+    ("walk-type-verified", "walk: type 3 is only refused where its checksum agrees"),
+    ("walk-type-any-mark", "walk: type 3 is refused whatever the mark"),
+    ("walk-update-as-insert", "walk: an update is told as an insert"),
+    ("walk-tombstone-long", "walk: a tombstone has a data entry's layout"),
+    ("walk-key-shifted", "walk: the key's place is one too far"),
+    ("walk-limits", "walk: keys and values over the writer's limits are passed over"),
+    ("walk-bound-included", "walk: a line at the bound is tried"),
+    ("bound-uncapped", "used bound: isn't capped at the region's length"),
+    ("bound-unrounded", "used bound: isn't rounded up"),
+    ("bound-off-by-one", "used bound: the last byte isn't looked at"),
+    ("end-unrounded", "durable end: isn't rounded up"),
+    ("end-capped", "durable end: is capped at the region's length"),
+    ("tracker-number-reused", "record: the next number isn't taken"),
+    ("tracker-limit-included", "checkpoint: the limit itself is counted"),
+    ("tracker-stop-ignored", "checkpoint and drain: every small number is summed"),
+    ("tracker-cursor-offset", "checkpoint: the least offset, whatever the ordinal"),
+    ("tracker-limit-greatest", "checkpoint: the limit is the greatest open number"),
+    ("tracker-zero-queued", "complete: a delta of 0 is queued"),
+    ("tracker-zero-dropped", "record: a delta of 0 isn't queued"),
+    ("tracker-slot-wiped", "complete: ordinal and offset become 0 too"),
+    ("tracker-number-unmatched", "complete: any open slot is completed"),
+    ("tracker-abandon-queues", "abandon: a delta is queued"),
+    ("tracker-open-kept", "reserve: an open slot isn't overwritten"),
+    ("tracker-room-early", "record: 15 comes at 31 beside an idle slot"),
+    ("tracker-sealed-open", "reserve: the sealed flag isn't looked at"),
+    ("tracker-pending-slots", "checkpoint: pending looks at slots alone"),
+    ("tracker-clear-next", "clear: the next number becomes 1"),
+    ("tracker-drain-keeps", "drain: sums but removes nothing"),
+    ("tracker-order-swapped", "reserve: 5 is given before 15"),
+    ("replay-unrounded", "replay: the size isn't rounded up"),
+    ("replay-tombstone-ten", "replay: a tombstone is measured as a data entry"),
+    ("start-above", "start file: the first above the cursor's ordinal"),
+    ("start-first", "start file: the first where none is at or above"),
+];
+
+pub struct Paper {
+    slip: &'static str,
+    big: Vec<u8>,
+}
+
+/// What a line holds.
+enum Line {
+    Pass,
+    Unknown,
+    Bad { length: u64 },
+    Entry { kind: u64, ns: u64, klen: u64, vlen: u64, length: u64 },
+}
+
+fn u16_at(bytes: &[u8], at: usize) -> u64 {
+    u64::from(u16::from_le_bytes([bytes[at], bytes[at + 1]]))
+}
+
+fn u32_at(bytes: &[u8], at: usize) -> u32 {
+    u32::from_le_bytes(bytes[at..at + 4].try_into().unwrap())
+}
+
+impl Paper {
+    pub fn plain() -> Self {
+        Self::with("")
+    }
+
+    pub fn with(slip: &'static str) -> Self {
+        Paper { slip, big: Vec::new() }
+    }
+
+    fn slips(&self, name: &str) -> bool {
+        self.slip == name
+    }
+
+    fn hash(&self, bytes: &[u8]) -> u16 {
+        crc16_ibm3740_fast::update(if self.slips("sum-start-zero") { 0 } else { 0xffff }, bytes)
+    }
+
+    fn mark(&self, p: u64) -> u32 {
+        let mark = p / 16 + 0x5a_17c0;
+        (if self.slips("mark-unreduced") { mark } else { mark % (1 << 24) }) as u32
+    }
+
+    // ---- header
+
+    fn read_header(&self, bytes: &[u8]) -> Said {
+        if bytes.len() < HEADER {
+            return Said::refused(1);
+        }
+        let version = u32_at(bytes, 8) & if self.slips("header-version-low-byte") { 0xff } else { u32::MAX };
+        if (bytes[..8] != *b"LOCKDAT1" && !self.slips("header-signature-unread")) || version != 1 {
+            return Said::refused(2);
+        }
+        let ordinal = u64::from_le_bytes(bytes[16..24].try_into().unwrap());
+        Said::values(&[if self.slips("header-ordinal-half") { ordinal & 0xffff_ffff } else { ordinal }])
+    }
+
+    fn write_header(&self, lent: &[u8], ordinal: u64) -> Said {
+        let mut bytes = lent.to_vec();
+        if bytes.len() < HEADER {
+            return Said { number: 1, bytes, ..Default::default() };
+        }
+        if !self.slips("header-rest-unwritten") {
+            bytes[..HEADER].fill(0);
+        }
+        bytes[..8].copy_from_slice(b"LOCKDAT1");
+        bytes[8..16].copy_from_slice(&1u64.to_le_bytes());
+        bytes[16..24].copy_from_slice(&ordinal.to_le_bytes());
+        if self.slips("header-writes-on") && bytes.len() > HEADER {
+            bytes[HEADER] = 0;
+        }
+        Said { bytes, ..Default::default() }
+    }
+
+    // ---- entries
+
+    fn read_at(&self, region: &[u8], place: u64, hint: u64) -> Said {
+        if region.len() > MAX_REGION {
+            return Said::refused(3);
+        }
+        let late = self.slips("read-line-late");
+        if place % 16 != 0 && !late {
+            return Said::refused(5);
+        }
+        let rest = region.get(place.min(region.len() as u64) as usize..).unwrap_or(&[]);
+        let hint = match () {
+            () if self.slips("read-hint-ignored") => u64::MAX,
+            () if self.slips("read-hint-off-by-one") => hint.saturating_add(1),
+            () => hint,
+        };
+        let seen = &rest[..hint.min(rest.len() as u64) as usize];
+        if seen.len() < 8 {
+            return Said::refused(6);
+        }
+        if place % 16 != 0 {
+            return Said::refused(5);
+        }
+        self.parse(seen, place)
+    }
+
+    fn parse(&self, seen: &[u8], place: u64) -> Said {
+        let word = u32_at(seen, 0);
+        let (mut klen, mut vlen) = (u16_at(seen, 4), u16_at(seen, 6));
+        let length = 10 + klen + vlen;
+        let short = (seen.len() as u64) < length;
+        if short && self.slips("read-length-first") {
+            return Said::refused(6);
+        }
+        if word & 0xff_ffff != self.mark(place) {
+            return Said::refused(7);
+        }
+        if short {
+            return Said::refused(6);
+        }
+        let kind = u64::from(word >> 30);
+        let bad = u16_at(seen, length as usize - 2) != u64::from(self.hash(&seen[..length as usize - 2]));
+        if bad && !(self.slips("read-type-first") && kind >= 2) {
+            return Said::refused(8);
+        }
+        if kind >= 2 {
+            return Said::refused(9);
+        }
+        if self.slips("read-swapped") {
+            std::mem::swap(&mut klen, &mut vlen);
+        }
+        let told = if self.slips("read-type-told") { kind } else { 0 };
+        let values = eight(place, told, u64::from(word >> 24 & 63), klen, vlen, place + length).to_vec();
+        let middle = 8 + vlen as usize;
+        let bytes = [&seen[middle..middle + klen as usize], &seen[8..middle]].concat();
+        Said { values, bytes, ..Default::default() }
+    }
+
+    /// The refusals of an append in the table's order; a tombstone has no value and its kind is 2.
+    fn append_refusal(
+        &self,
+        capacity: usize,
+        used: u64,
+        kind: u64,
+        tombstone: bool,
+        ns: u64,
+        klen: usize,
+        vlen: usize,
+    ) -> u32 {
+        let longest_key = if self.slips("append-key-limit") { 4095 } else { 4096 };
+        let length = up16(if tombstone { 8 + klen } else { 10 + klen + vlen } as u64);
+        let room = (capacity as u64).saturating_sub(u64::from(self.slips("append-room-off-by-one")));
+        let fits = used.checked_add(length).is_some_and(|end| end <= room);
+        let wrong_ns = ns > 63;
+        match () {
+            () if capacity > MAX_REGION => 3,
+            () if used % 16 != 0 => 5,
+            () if !tombstone && kind > 1 => 9,
+            () if wrong_ns && !self.slips("append-namespace-late") => 17,
+            () if self.slips("append-order-swapped") && vlen > 32768 => 12,
+            () if klen > longest_key => 11,
+            () if vlen > 32768 => 12,
+            () if wrong_ns => 17,
+            () if !fits => 13,
+            () => 0,
+        }
+    }
+
+    fn entry_bytes(&self, at: u64, kind: u64, tombstone: bool, ns: u64, key: &[u8], value: &[u8]) -> Vec<u8> {
+        let length = up16(if tombstone { 8 + key.len() } else { 10 + key.len() + value.len() } as u64);
+        let mark = self.mark(if self.slips("append-mark-next") { at + length } else { at });
+        let mut bytes = (mark | (ns as u32) << 24 | (kind as u32) << 30).to_le_bytes().to_vec();
+        bytes.extend((key.len() as u16).to_le_bytes());
+        if !tombstone {
+            bytes.extend((value.len() as u16).to_le_bytes());
+        }
+        let parts = if self.slips("append-key-first") { [key, value] } else { [value, key] };
+        bytes.extend(parts.concat());
+        let sum = self.hash(&bytes);
+        bytes.extend(if self.slips("append-sum-swapped") { sum.to_be_bytes() } else { sum.to_le_bytes() });
+        if !self.slips("append-fill-missing") {
+            bytes.resize(length as usize, if self.slips("append-fill-zero") { 0 } else { 0xff });
+        }
+        bytes
+    }
+
+    fn append(
+        &self,
+        region: &mut [u8],
+        used: u64,
+        kind: u64,
+        tombstone: bool,
+        ns: u64,
+        key: &[u8],
+        value: &[u8],
+    ) -> Said {
+        let number = self.append_refusal(region.len(), used, kind, tombstone, ns, key.len(), value.len());
+        if number != 0 {
+            return Said::refused(number);
+        }
+        let bytes = self.entry_bytes(used, kind, tombstone, ns, key, value);
+        region[used as usize..used as usize + bytes.len()].copy_from_slice(&bytes);
+        let end = used + (if tombstone { 8 } else { 10 } + key.len() + value.len()) as u64;
+        Said::values(&[if self.slips("append-unrounded") { end } else { up16(end) }])
+    }
+
+    // ---- walk and tail
+
+    fn line(&self, region: &[u8], p: u64, bound: u64) -> Line {
+        let rest = &region[p as usize..];
+        let word = u32_at(rest, 0);
+        let kind = u64::from(word >> 30);
+        if kind == 3 && self.slips("walk-type-any-mark") {
+            return Line::Unknown;
+        }
+        if word & 0xff_ffff != self.mark(p) {
+            return Line::Pass;
+        }
+        if kind == 3 && !self.slips("walk-type-verified") {
+            return Line::Unknown;
+        }
+        let tombstone = kind == 2 && !self.slips("walk-tombstone-long");
+        let klen = u16_at(rest, 4);
+        let vlen = if tombstone { 0 } else { u16_at(rest, 6) };
+        let length = klen + vlen + if tombstone { 8 } else { 10 };
+        let room = if self.slips("walk-within-bound") { bound.saturating_sub(p) } else { rest.len() as u64 };
+        let whole = length <= room.min(rest.len() as u64);
+        if !whole || u16_at(rest, length as usize - 2) != u64::from(self.hash(&rest[..length as usize - 2])) {
+            return Line::Bad { length };
+        }
+        if kind == 3 {
+            return Line::Unknown;
+        }
+        if self.slips("walk-limits") && (klen > 4096 || vlen > 32768) {
+            return Line::Pass;
+        }
+        Line::Entry { kind, ns: u64::from(word >> 24 & 63), klen, vlen, length }
+    }
+
+    fn walk(&self, region: &[u8], bound: u64, offset: u64) -> Said {
+        let total = region.len() as u64;
+        if region.len() > MAX_REGION {
+            return Said::refused(3);
+        }
+        if bound > total {
+            return Said::refused(4);
+        }
+        if offset >= bound {
+            return Said::values(&[0]);
+        }
+        let least = if self.slips("walk-needs-ten") { 10 } else { 8 };
+        let last = bound + u64::from(self.slips("walk-bound-included"));
+        let mut p = up16(offset);
+        while p < last && p + least <= total {
+            match self.line(region, p, bound) {
+                Line::Unknown => return Said { number: 10, values: vec![p], ..Default::default() },
+                Line::Entry { kind, ns, klen, vlen, length } => {
+                    return self.found(region, [p, kind, ns, klen, vlen, length])
+                }
+                Line::Bad { .. } if self.slips("walk-stops") => break,
+                Line::Bad { length } if self.slips("walk-jumps") => p += up16(length),
+                _ => p += 16,
+            }
+        }
+        Said::values(&[0])
+    }
+
+    fn found(&self, region: &[u8], [p, kind, ns, klen, vlen, length]: [u64; 6]) -> Said {
+        let mut e = eight(p, kind, ns, klen, vlen, p + length);
+        if self.slips("walk-update-as-insert") && kind == 1 {
+            e[1] = 0;
+        }
+        if self.slips("walk-end-rounded") {
+            e[7] = up16(e[7]);
+        }
+        if self.slips("walk-key-shifted") && klen > 0 {
+            e[6] += 1;
+        }
+        let part = |at: u64, len: u64| &region[at as usize..(at + len) as usize];
+        let bytes = [part(e[6], klen), part(e[5], vlen)].concat();
+        let mut values = vec![1];
+        values.extend(e);
+        Said { values, bytes, ..Default::default() }
+    }
+
+    fn used_bound(&self, region: &[u8]) -> Said {
+        if region.len() > MAX_REGION {
+            return Said::refused(3);
+        }
+        let mut seen = region;
+        if self.slips("bound-off-by-one") && !seen.is_empty() {
+            seen = &seen[..seen.len() - 1];
+        }
+        let past = seen.iter().rposition(|&byte| byte != 0).map_or(0, |last| last as u64 + 1);
+        let rounded = if self.slips("bound-unrounded") { past } else { up16(past) };
+        Said::values(&[if self.slips("bound-uncapped") { rounded } else { rounded.min(region.len() as u64) }])
+    }
+
+    fn durable_end(&self, region: &[u8], bound: u64) -> Said {
+        let mut end = 0;
+        let mut offset = 0;
+        loop {
+            let said = self.walk(region, bound, offset);
+            if said.number != 0 {
+                return said;
+            }
+            if said.values[0] == 0 {
+                return Said::values(&[if self.slips("end-capped") { end.min(region.len() as u64) } else { end }]);
+            }
+            offset = said.values[8];
+            end = if self.slips("end-unrounded") { offset } else { up16(offset) };
+        }
+    }
+
+    fn boot(&self, file: &[u8]) -> Said {
+        let head = self.read_header(file);
+        if head.number != 0 {
+            return head;
+        }
+        let bound = self.used_bound(&file[HEADER..]).values[0];
+        let end = self.durable_end(&file[HEADER..], bound.min((file.len() - HEADER) as u64));
+        match end.number {
+            0 => Said::values(&[head.values[0], bound, end.values[0]]),
+            number => Said::refused(number),
+        }
+    }
+
+    // ---- replay and start
+
+    fn replay(&self, tombstone: bool, klen: u64, vlen: u64, maximum: u64) -> Said {
+        let header = if tombstone && !self.slips("replay-tombstone-ten") { 8 } else { 10 };
+        Said::refused(match () {
+            () if maximum > MAX_REGION as u64 => 3,
+            () if klen > 4096 => 11,
+            () if vlen > 32768 => 12,
+            () if maximum
+                < if self.slips("replay-unrounded") { header + klen + vlen } else { up16(header + klen + vlen) } =>
+            {
+                13
+            }
+            () => 0,
+        })
+    }
+
+    fn start_file(&self, ordinals: &[u64], cursor: u64) -> Said {
+        if ordinals.len() > 64 {
+            return Said::refused(18);
+        }
+        if ordinals.is_empty() {
+            return Said::values(&[0]);
+        }
+        let first = ordinals.iter().position(|&o| o > cursor || (o == cursor && !self.slips("start-above")));
+        let otherwise = if self.slips("start-first") { 0 } else { ordinals.len() - 1 };
+        Said::values(&[1, first.unwrap_or(otherwise) as u64])
+    }
+
+    fn lend(
+        &mut self,
+        region: &Region,
+        window: std::ops::Range<usize>,
+        call: impl FnOnce(&Self, &mut [u8]) -> Said,
+    ) -> Said {
+        match region {
+            Region::Dense(bytes) => call(self, &mut bytes.clone()),
+            Region::Sparse { length, at, bytes } => {
+                let mut big = std::mem::take(&mut self.big);
+                if big.is_empty() {
+                    big = vec![0; MAX_REGION + 4096];
+                }
+                big[*at..at + bytes.len()].copy_from_slice(bytes);
+                let said = call(self, &mut big[..*length]);
+                big[window].fill(0);
+                self.big = big;
+                said
+            }
+        }
+    }
+
+    fn look(&mut self, region: &Region, call: impl FnOnce(&Self, &[u8]) -> Said) -> Said {
+        self.lend(region, window(region, u64::MAX, 0), |paper, lent| call(paper, lent))
+    }
+
+    fn put(
+        &mut self,
+        region: &Region,
+        used: u64,
+        kind: u64,
+        tombstone: bool,
+        ns: u64,
+        key: &[u8],
+        value: &[u8],
+    ) -> Said {
+        let length = up16(if tombstone { 8 + key.len() } else { 10 + key.len() + value.len() } as u64);
+        let window = window(region, used, length);
+        self.lend(region, window.clone(), |paper, lent| {
+            let said = paper.append(lent, used, kind, tombstone, ns, key, value);
+            Said { bytes: lent[window].to_vec(), ..said }
+        })
+    }
+}
+
+impl Side for Paper {
+    fn say(&mut self, call: &Call) -> Said {
+        match call {
+            Call::Hash { bytes } => Said::values(&[self.hash(bytes).into()]),
+            Call::Update { state, bytes } => Said::values(&[crc16_ibm3740_fast::update(*state, bytes).into()]),
+            Call::ReadHeader { bytes } => self.read_header(bytes),
+            Call::WriteHeader { lent, ordinal } => self.write_header(lent, *ordinal),
+            Call::ReadAt { region, place, hint } => self.look(region, |paper, lent| paper.read_at(lent, *place, *hint)),
+            Call::AppendData { region, used, kind, ns, key, value } => {
+                self.put(region, *used, *kind, false, *ns, key, value)
+            }
+            Call::AppendTombstone { region, used, ns, key } => self.put(region, *used, 2, true, *ns, key, &[]),
+            Call::Walk { region, bound, offset } => self.look(region, |paper, lent| paper.walk(lent, *bound, *offset)),
+            Call::Listing { region, bound } => {
+                self.look(region, |paper, lent| listing(|offset| paper.walk(lent, *bound, offset)))
+            }
+            Call::Part { region, at, len } => self.look(region, |_, lent| {
+                let end = at.checked_add(*len).filter(|&end| end <= lent.len() as u64);
+                match end {
+                    Some(end) => Said {
+                        values: vec![*at, *len],
+                        bytes: lent[*at as usize..end as usize].to_vec(),
+                        ..Default::default()
+                    },
+                    None => Said::values(&[0, 0]),
+                }
+            }),
+            Call::UsedBound { region } => self.look(region, |paper, lent| paper.used_bound(lent)),
+            Call::DurableEnd { region, bound } => self.look(region, |paper, lent| paper.durable_end(lent, *bound)),
+            Call::Boot { file } => self.boot(file),
+            Call::Track { state, step } => self.track(state, step),
+            Call::ReplayData { klen, vlen, maximum } => self.replay(false, *klen, *vlen, *maximum),
+            Call::ReplayTombstone { klen, maximum } => self.replay(true, *klen, 0, *maximum),
+            Call::StartFile { ordinals, cursor } => self.start_file(ordinals, *cursor),
+        }
+    }
+}
+
+// ---- tracker
+
+/// Document 01: a value is sound if each queue length is at most 32, and at most 31 beside an open slot, the next number
+/// is at least 1, and every open or waiting number is below it.
+pub fn sound(state: &State) -> bool {
+    state.next >= 1
+        && state.slots.iter().zip(&state.queues).all(|(slot, queue)| {
+            queue.len() + usize::from(slot.number != 0) <= 32
+                && slot.number < state.next
+                && queue.iter().all(|&(number, _)| number < state.next)
+        })
+}
+
+impl Paper {
+    fn track(&self, state: &State, step: &Step) -> Said {
+        let mut after = state.clone();
+        let answer = if sound(state) { self.step(&mut after, step) } else { Err(28) };
+        match answer {
+            Ok(values) => Said { values, state: Some(Box::new(after)), ..Default::default() },
+            Err(number) => Said { number, state: Some(Box::new(state.clone())), ..Default::default() },
+        }
+    }
+
+    fn step(&self, t: &mut State, step: &Step) -> Result<Vec<u64>, u32> {
+        match *step {
+            Step::Reserve { shard, ordinal, used, capacity, sealed, length } => {
+                self.reserve(t, shard, ordinal, used, capacity, sealed, length)
+            }
+            Step::Complete { shard, number, delta } => self.finish(t, shard, number, delta),
+            Step::Abandon { shard, number } => {
+                self.finish(t, shard, number, i8::from(self.slips("tracker-abandon-queues")))
+            }
+            Step::Record { shard, delta } => self.record(t, shard, delta),
+            Step::Checkpoint { ordinal, used } => Ok(self.checkpoint(t, ordinal, used)),
+            Step::Drain { limit } => Ok(vec![self.drain(t, limit) as u64]),
+            Step::Clear => {
+                t.slots = [Slot::default(); 16];
+                t.queues = Default::default();
+                if self.slips("tracker-clear-next") {
+                    t.next = 1;
+                }
+                Ok(vec![])
+            }
+        }
+    }
+
+    fn reserve(
+        &self,
+        t: &mut State,
+        shard: u64,
+        ordinal: u64,
+        used: u64,
+        capacity: u64,
+        sealed: bool,
+        length: u64,
+    ) -> Result<Vec<u64>, u32> {
+        let off_line = used % 16 != 0 || length % 16 != 0 || length == 0;
+        let sealed = sealed && !self.slips("tracker-sealed-open");
+        let fits = used.checked_add(length).is_some_and(|end| end <= capacity);
+        let full = |t: &State| t.queues[shard as usize].len() == 32;
+        let number = match () {
+            () if shard > 15 => 14,
+            () if t.next == u64::MAX => 16,
+            () if self.slips("tracker-order-swapped") && off_line => 5,
+            () if full(t) => 15,
+            () if off_line => 5,
+            () if capacity > MAX_REGION as u64 => 3,
+            () if sealed || !fits => 13,
+            () => 0,
+        };
+        if number != 0 {
+            return Err(number);
+        }
+        let taken = t.next;
+        t.next += 1;
+        let slot = &mut t.slots[shard as usize];
+        if slot.number == 0 || !self.slips("tracker-open-kept") {
+            *slot = Slot { number: taken, ordinal, offset: used };
+        }
+        Ok(vec![taken, used])
+    }
+
+    fn record(&self, t: &mut State, shard: u64, delta: i8) -> Result<Vec<u64>, u32> {
+        if shard > 15 {
+            return Err(14);
+        }
+        if t.next == u64::MAX {
+            return Err(16);
+        }
+        let open = t.slots[shard as usize].number != 0;
+        let queue = &mut t.queues[shard as usize];
+        if queue.len() + usize::from(open || self.slips("tracker-room-early")) >= 32 {
+            return Err(15);
+        }
+        if delta != 0 || !self.slips("tracker-zero-dropped") {
+            queue.push((t.next, delta.into()));
+        }
+        let taken = t.next;
+        if !self.slips("tracker-number-reused") {
+            t.next += 1;
+        }
+        Ok(vec![taken])
+    }
+
+    fn finish(&self, t: &mut State, shard: u64, number: u64, delta: i8) -> Result<Vec<u64>, u32> {
+        if shard > 15 {
+            return Err(14);
+        }
+        let slot = &mut t.slots[shard as usize];
+        let matches = slot.number == number || self.slips("tracker-number-unmatched");
+        if slot.number == 0 || number == 0 || !matches {
+            return Ok(vec![0]);
+        }
+        slot.number = 0;
+        if self.slips("tracker-slot-wiped") {
+            *slot = Slot::default();
+        }
+        if delta != 0 || self.slips("tracker-zero-queued") {
+            t.queues[shard as usize].push((number, delta.into()));
+        }
+        Ok(vec![1])
+    }
+
+    /// How many deltas of a queue count under a limit, and their sum.
+    fn counted(&self, queue: &[(u64, i64)], limit: u64, included: bool) -> (usize, i64) {
+        let counts = |number: u64| number < limit || (included && number == limit);
+        if self.slips("tracker-stop-ignored") {
+            let sum = queue.iter().filter(|&&(number, _)| counts(number)).map(|&(_, delta)| delta).sum();
+            return (queue.iter().take_while(|&&(number, _)| counts(number)).count(), sum);
+        }
+        let front = queue.iter().take_while(|&&(number, _)| counts(number));
+        front.fold((0, 0), |(count, sum), &(_, delta)| (count + 1, sum + delta))
+    }
+
+    fn checkpoint(&self, t: &State, ordinal: u64, used: u64) -> Vec<u64> {
+        let open: Vec<&Slot> = t.slots.iter().filter(|slot| slot.number != 0).collect();
+        let by_offset = self.slips("tracker-cursor-offset");
+        let least = open.iter().min_by_key(|slot| (if by_offset { 0 } else { slot.ordinal }, slot.offset));
+        let (ordinal, offset) = least.map_or((ordinal, used), |slot| (slot.ordinal, slot.offset));
+        let numbers = open.iter().map(|slot| slot.number);
+        let limit =
+            if self.slips("tracker-limit-greatest") { numbers.max() } else { numbers.min() }.unwrap_or(u64::MAX);
+        let included = self.slips("tracker-limit-included");
+        let sum: i64 = t.queues.iter().map(|queue| self.counted(queue, limit, included).1).sum();
+        let waiting = t.queues.iter().any(|queue| !queue.is_empty()) && !self.slips("tracker-pending-slots");
+        vec![ordinal, offset, sum as u64, limit, u64::from(!open.is_empty() || waiting)]
+    }
+
+    fn drain(&self, t: &mut State, limit: u64) -> i64 {
+        let mut total = 0;
+        for queue in &mut t.queues {
+            let (count, sum) = self.counted(queue, limit, false);
+            if !self.slips("tracker-drain-keeps") {
+                queue.drain(..count);
+            }
+            total += sum;
+        }
+        total
+    }
+}

@@ -1,0 +1,223 @@
+//! Writes a sample of the original's answers, for the repository's own tests to replay without Rust at hand. README.md
+//! describes the format.
+use std::collections::BTreeMap;
+
+use crate::{
+    calls::{Call, Region},
+    codec::{write_said, write_state, Record, Records},
+    draw::{entry, fresh_state, Draw},
+    fixed,
+    judge::Judge,
+    library::Side,
+    table::grouped,
+};
+
+/// Of each answer of each operation: so many small calls, and so many of regions up to 70,000 bytes.
+const SMALL: usize = 48;
+const SMALL_BYTES: usize = 420;
+const LARGE: usize = 1;
+const LARGE_BYTES: usize = 5_000;
+const LARGE_REGION: usize = 70_000;
+const TRACES: usize = 48;
+const STEPS_IN_TRACE: usize = 30;
+/// After so many calls of a trace its whole state is written.
+const STEPS_TO_STATE: usize = 10;
+
+pub const SIGNATURE: &[u8; 8] = b"LOCKREC1";
+
+struct Recorder {
+    judge: Judge,
+    out: Vec<u8>,
+    records: u32,
+    met: BTreeMap<(&'static str, String, bool), usize>,
+}
+
+/// What a call was lent to write to.
+fn lent(call: &Call) -> Option<&[u8]> {
+    match call {
+        Call::WriteHeader { lent, .. } => Some(lent),
+        Call::AppendData { region: Region::Dense(bytes), .. }
+        | Call::AppendTombstone { region: Region::Dense(bytes), .. } => Some(bytes),
+        _ => None,
+    }
+}
+
+fn recorded(call: &Call) -> bool {
+    let region = match call {
+        Call::Update { .. } | Call::Listing { .. } | Call::Part { .. } | Call::Boot { .. } | Call::Track { .. } => {
+            return false
+        }
+        Call::ReadAt { region, .. }
+        | Call::Walk { region, .. }
+        | Call::AppendData { region, .. }
+        | Call::AppendTombstone { region, .. }
+        | Call::UsedBound { region }
+        | Call::DurableEnd { region, .. } => region,
+        _ => return true,
+    };
+    matches!(region, Region::Dense(_)) && region.len() <= LARGE_REGION
+}
+
+impl Recorder {
+    /// Records the original's answer to a call, unless there are enough like it.
+    fn take(&mut self, call: &Call) {
+        if recorded(call) {
+            self.write(call, true);
+        }
+    }
+
+    fn write(&mut self, call: &Call, sparing: bool) {
+        let Ok(judged) = self.judge.judge(call) else { return };
+        if judged.parting.is_some() {
+            return;
+        }
+        let mut bytes = Vec::new();
+        call.parts().write_call(&mut bytes);
+        write_said(&judged.said, lent(call), &mut bytes);
+        let large = bytes.len() > SMALL_BYTES;
+        let most = if large { LARGE } else { SMALL };
+        if sparing && bytes.len() > LARGE_BYTES {
+            return;
+        }
+        let met = self.met.entry((call.operation(), call.answer_name(&judged.said), large)).or_default();
+        if *met < most || !sparing {
+            *met += 1;
+            self.out.extend(bytes);
+            self.records += 1;
+        }
+    }
+
+    fn trace(&mut self, draw: &mut Draw) {
+        let mut state = Box::new(fresh_state());
+        let mut started = false;
+        let mut steps = 0;
+        while steps < STEPS_IN_TRACE {
+            let Call::Track { state: from, step } = draw.trace_call(!started) else { return };
+            if !started || *from != *state {
+                write_state(10, &from, &mut self.out);
+                self.records += 1;
+                started = true;
+            }
+            let call = Call::Track { state: from.clone(), step };
+            steps += 1;
+            let Ok(judged) = self.judge.judge(&call) else { continue };
+            draw.learn(&judged.said);
+            state = judged.said.state.clone().unwrap_or(from);
+            if judged.parting.is_some() {
+                continue;
+            }
+            call.parts().write_call(&mut self.out);
+            write_said(&judged.said, None, &mut self.out);
+            self.records += 1;
+            if steps % STEPS_TO_STATE == 0 || steps == STEPS_IN_TRACE {
+                write_state(18, &state, &mut self.out);
+                self.records += 1;
+            }
+        }
+    }
+}
+
+/// Calls that are too large to be drawn for a small file, made of zeros so that they take few bytes: header writers, the
+/// largest entry that can be written, and entries with lengths up to 65,535, whole and one byte short.
+fn extra() -> Vec<Call> {
+    let mut calls = Vec::new();
+    for length in [4096, 4097, 4112, 5000] {
+        for ordinal in [0, 1, 0x0102_0304_0506_0708, u64::MAX] {
+            let mut lent = vec![0; length];
+            lent[length - 1] = 7;
+            lent[3] = 9;
+            calls.push(Call::WriteHeader { lent, ordinal });
+        }
+    }
+    calls.push(Call::WriteHeader { lent: vec![0xee; 4100], ordinal: 5 });
+    for length in [36_879, 36_880, 36_881] {
+        let (region, key, value) = (Region::Dense(vec![0; length]), vec![0; 4096], vec![0; 32_768]);
+        calls.push(Call::AppendData { region, used: 0, kind: 1, ns: 63, key, value });
+    }
+    for (klen, vlen) in [(0, 65_535), (65_535, 0), (4097, 32_769), (30_000, 35_000)] {
+        for p in [0, 16, 48] {
+            let whole = entry(p, 1, 3, false, &vec![0; klen], &vec![0; vlen]);
+            for short in [0, 1] {
+                let mut bytes = vec![0; p];
+                bytes.extend(&whole[..whole.len() - short]);
+                let bound = bytes.len() as u64;
+                let region = Region::Dense(bytes);
+                calls.push(Call::Walk { region: region.clone(), bound, offset: 0 });
+                calls.push(Call::ReadAt { region: region.clone(), place: p as u64, hint: 80_000 });
+                calls.push(Call::DurableEnd { region: region.clone(), bound });
+                calls.push(Call::UsedBound { region });
+            }
+        }
+    }
+    calls
+}
+
+pub fn record(path: &str, seed: u64) -> std::io::Result<()> {
+    let mut recorder = Recorder { judge: Judge::new(), out: Vec::new(), records: 0, met: BTreeMap::new() };
+    // Calls at random first, so that the fixed ones, which are many and alike, only fill up.
+    let mut draw = Draw::new(seed);
+    for _ in 0..60_000 {
+        let call = draw.call();
+        recorder.take(&call);
+    }
+    fixed::calls().step_by(7).take(60_000).for_each(|call| recorder.take(&call));
+    extra().iter().for_each(|call| recorder.write(call, false));
+    for i in 0..TRACES as u64 {
+        recorder.trace(&mut Draw::new(seed + 1 + i));
+    }
+    let mut file = SIGNATURE.to_vec();
+    file.extend(recorder.records.to_le_bytes());
+    file.extend(&recorder.out);
+    file.push(0);
+    std::fs::write(path, &file)?;
+    println!("{path}: {} records, {} bytes", grouped(recorder.records.into()), grouped(file.len() as u64));
+    for ((operation, answer, large), count) in &recorder.met {
+        println!("{count:>5}  {operation}: {answer}{}", if *large { " (large)" } else { "" });
+    }
+    Ok(())
+}
+
+/// Replays recorded answers: the same that a program without Rust does, so that the file is known to be right.
+pub fn replay(path: &str, side: &mut dyn Side) -> Result<bool, String> {
+    let file = std::fs::read(path).map_err(|why| format!("{path}: {why}"))?;
+    let body = file.strip_prefix(SIGNATURE).ok_or("the file has another signature")?;
+    let (count, body) = body.split_at_checked(4).ok_or("the file is too short")?;
+    let count = u32::from_le_bytes(count.try_into().unwrap());
+    let mut records = Records::new(body);
+    let mut state = Box::new(fresh_state());
+    for at in 0..=count {
+        let record = records.next().ok_or(format!("record {at} can't be read"))?;
+        let good = match record {
+            Record::End => return Ok(at == count),
+            Record::Begin(begin) => {
+                state = begin;
+                true
+            }
+            Record::Check(right) => right == state,
+            Record::Call { mut parts, number, values, changes } => {
+                if (11..=17).contains(&parts.op) {
+                    parts.state = Some(state.clone());
+                }
+                let call = parts.call().ok_or(format!("record {at} is no call"))?;
+                let said = side.say(&call);
+                let right_bytes = lent(&call).map(|before| changed(before, &changes));
+                let same_bytes = right_bytes.is_none_or(|right| right == said.bytes);
+                state = said.state.unwrap_or(state);
+                same_bytes && said.number == number && said.values == values
+            }
+        };
+        if !good {
+            println!("record {at} differs");
+            return Ok(false);
+        }
+    }
+    Ok(false)
+}
+
+fn changed(before: &[u8], changes: &[(usize, Vec<u8>)]) -> Vec<u8> {
+    let mut bytes = before.to_vec();
+    for (place, run) in changes {
+        bytes[*place..place + run.len()].copy_from_slice(run);
+    }
+    bytes
+}

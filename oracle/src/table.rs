@@ -1,0 +1,120 @@
+//! What was compared, and how often each answer was met.
+use std::collections::BTreeMap;
+
+use crate::{
+    calls::{Call, Said, OPERATIONS},
+    judge::Judged,
+};
+
+/// The parting of the operation that has no counterpart in the original.
+pub const PART: &str = "part: past the region's end (a slice panics)";
+
+/// The operations that document 01 written out answers in the library's place.
+fn standing_in() -> Vec<&'static str> {
+    let groups = [
+        ("tracker", &["reserve", "complete", "abandon", "record", "checkpoint", "drain", "clear"][..]),
+        ("replay limits", &["replay data", "replay tombstone"]),
+        ("start file", &["start file"]),
+    ];
+    let missing = crate::library::stand_ins();
+    groups.iter().filter(|(group, _)| missing.contains(group)).flat_map(|(_, names)| names.iter().copied()).collect()
+}
+
+#[derive(Default)]
+pub struct Table {
+    answers: BTreeMap<(&'static str, String), u64>,
+    partings: BTreeMap<&'static str, u64>,
+    pub calls: u64,
+}
+
+impl Table {
+    pub fn count(&mut self, call: &Call, judged: &Judged) {
+        self.calls += 1;
+        *self.answers.entry((call.operation(), call.answer_name(&judged.said))).or_default() += 1;
+        if let Some(name) = judged.parting {
+            *self.partings.entry(name).or_default() += 1;
+        }
+    }
+
+    fn met(&self, operation: &'static str, answer: &str) -> u64 {
+        self.answers.get(&(operation, answer.to_string())).copied().unwrap_or(0)
+    }
+
+    /// Answers that an operation can give and that were never met.
+    pub fn holes(&self) -> Vec<String> {
+        let all = OPERATIONS
+            .iter()
+            .flat_map(|operation| operation.answers.iter().map(move |answer| (operation.name, *answer)));
+        all.filter(|(name, answer)| self.met(name, answer) == 0)
+            .map(|(name, answer)| format!("{name}: {answer}"))
+            .collect()
+    }
+
+    /// `paper`: nothing was asked of the library.
+    pub fn print(&self, paper: bool) {
+        println!("{:<20} {:>11}  answers met", "operation", "calls");
+        for operation in OPERATIONS {
+            let counts: Vec<(&str, u64)> =
+                operation.answers.iter().map(|answer| (*answer, self.met(operation.name, answer))).collect();
+            let total: u64 = counts.iter().map(|(_, count)| count).sum();
+            let words: Vec<String> =
+                counts.iter().map(|(answer, count)| format!("{answer} {}", grouped(*count))).collect();
+            println!("{:<20} {:>11}  {}", operation.name, grouped(total), words.join(", "));
+        }
+        println!("{:<20} {:>11}", "all", grouped(self.calls));
+        println!();
+        println!("{:>11}  partings outside document 01's domain, each as listed (what the original does)", "calls");
+        for (name, count) in &self.partings {
+            println!("{:>11}  {name}", grouped(*count));
+        }
+        let parted: u64 = self.partings.values().sum();
+        println!("{:>11}  all", grouped(parted));
+        println!();
+        // The checksum crate couldn't be had, and a part of a slice is Rust's own.
+        let by_rule = ["checksum", "checksum, continued"].map(|name| self.met(name, "sum")).iter().sum::<u64>()
+            + self.calls_of("part")
+            - self.partings.get(PART).copied().unwrap_or(0);
+        println!("{:>11}  the original gave the answer", grouped(self.calls - parted - by_rule));
+        println!("{:>11}  checksums and parts, held to the catalogue's rule and to a plain slice", grouped(by_rule));
+        let standing_in: u64 = standing_in().iter().map(|name| self.calls_of(name)).sum();
+        let asked = if paper { 0 } else { self.calls - standing_in };
+        println!("{:>11}  of all calls were asked of the proved library", grouped(asked));
+    }
+
+    fn calls_of(&self, operation: &str) -> u64 {
+        self.answers.iter().filter(|((name, _), _)| *name == operation).map(|(_, count)| count).sum()
+    }
+}
+
+/// A number with its thousands apart.
+pub fn grouped(number: u64) -> String {
+    let digits = number.to_string();
+    let mut grouped = String::new();
+    for (i, digit) in digits.chars().enumerate() {
+        if i > 0 && (digits.len() - i) % 3 == 0 {
+            grouped.push(',');
+        }
+        grouped.push(digit);
+    }
+    grouped
+}
+
+/// An answer in a few words, for a disagreement.
+pub fn shown(call: &Call, said: &Said) -> String {
+    let mut words = format!("{} (number {}), values {:?}", call.answer_name(said), said.number, said.values);
+    if !said.bytes.is_empty() {
+        let shown = &said.bytes[..said.bytes.len().min(96)];
+        let more = if said.bytes.len() > shown.len() { ".." } else { "" };
+        words += &format!(", {} bytes {}{more}", said.bytes.len(), crate::codec::to_hex(shown));
+    }
+    if let Some(state) = &said.state {
+        words += &format!(", next {}", state.next);
+        for (shard, slot) in state.slots.iter().enumerate().filter(|(_, slot)| slot.number != 0 || slot.offset != 0) {
+            words += &format!(", slot {shard}: {} at ({}, {})", slot.number, slot.ordinal, slot.offset);
+        }
+        for (shard, queue) in state.queues.iter().enumerate().filter(|(_, queue)| !queue.is_empty()) {
+            words += &format!(", queue {shard}: {queue:?}");
+        }
+    }
+    words
+}
