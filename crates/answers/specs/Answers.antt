@@ -35,3 +35,13 @@ afterwards (refused n values) old new = old
 abbrev pub saidVerdict : Verdict → Said (Unit {0})
 saidVerdict Accepted = accepted tt
 saidVerdict (Refused r) = refused (numberOf r) []
+
+-- "Each returns its number": 0 for accepted
+abbrev pub numberSaid : {A : Type 0} → Said A → ℕ
+numberSaid (accepted a) = 0
+numberSaid (refused n values) = n
+
+-- what an out parameter holds afterwards: the answer's value, or on a refusal what stood there
+abbrev pub valueOut : {A : Type 0} → Said A → A → A
+valueOut (accepted value) old = value
+valueOut (refused n values) old = old

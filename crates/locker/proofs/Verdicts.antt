@@ -2,10 +2,9 @@
 -- Assumes nothing.
 use mathlib.Core.Path.{_≡_, refl}
 use Rattle.answers.specs.Numbers.{numberOf, numberOfVerdict}
-use Rattle.answers.specs.Answers.{saidVerdict}
+use Rattle.answers.specs.Answers.{saidVerdict, numberSaid}
 use Rattle.answers.specs.declared.Verdict.{Verdict}
 use Rattle.answers.specs.declared.Verdict.the-variants.{Accepted, Refused}
-use Rattle.locker.specs.Outs.{numberSaid}
 
 pub verdict-number : (v : Verdict) → numberOfVerdict v ≡ numberSaid (saidVerdict v)
 verdict-number Accepted = refl

@@ -5,7 +5,7 @@ use Prim.Native.Nat.{ℕ}
 use mathlib.Core.List.{List, [], _∷_}
 use mathlib.Core.Path.{_≡_}
 use mathlib.Core.Bool.{Bool}
-use Rattle.answers.specs.Answers.{Said, accepted, refused, afterwards}
+use Rattle.answers.specs.Answers.{Said, accepted, refused, afterwards, numberSaid, valueOut}
 use Rattle.fields.specs.Runs.{over}
 use Rattle.entry.specs.declared.Entry.{Entry}
 use Rattle.entry.specs.Words.{version1}
@@ -14,21 +14,11 @@ use Rattle.append.specs.Append.{appendOf}
 use Rattle.replay.specs.Start.{Started, file, nothing}
 use Rattle.scan.specs.Walk.{Step, found, ended, walkOf}
 
--- "Each returns its number"
-abbrev pub numberSaid : {A : Type 0} → Said A → ℕ
-numberSaid (accepted a) = 0
-numberSaid (refused n values) = n
-
 -- "(10 also its place)": the place that goes with the refusal, or what stood there
 abbrev pub placeOut : {A : Type 0} → Said A → ℕ → ℕ
 placeOut (accepted a) old = old
 placeOut (refused n []) old = old
 placeOut (refused n (p ∷ values)) old = p
-
--- a single number of the answer
-abbrev pub valueOut : Said ℕ → ℕ → ℕ
-valueOut (accepted n) old = n
-valueOut (refused n values) old = old
 
 -- an entry as eight numbers, in the order of its struct
 abbrev pub eight : Entry → List ℕ

@@ -7,7 +7,7 @@ ghost use mathlib.Core.Path.{_≡_};
 ghost use mathlib.Core.Bool.{true};
 ghost use mathlib.Core.List.{[]};
 ghost use lib.ListN.{length};
-ghost use Rattle.answers.specs.Answers.{afterwards};
+ghost use Rattle.answers.specs.Answers.{afterwards, numberSaid, valueOut};
 ghost use Rattle.fields.specs.Runs.{over};
 ghost use Rattle.checksum.specs.Catalogue.{crc16, crcFrom};
 ghost use Rattle.header.specs.Header.{readOf as headerRead, writeOf, headerOf};
@@ -19,7 +19,10 @@ ghost use Rattle.scan.specs.Parts.{partOf, partStart};
 ghost use Rattle.tail.specs.Tail.{usedOf, durableOf};
 ghost use Rattle.replay.specs.Limits.{dataLimits, tombstoneLimits};
 ghost use Rattle.replay.specs.Start.{startOf};
-ghost use Rattle.locker.specs.Outs.{startOut, startFound, numberSaid, placeOut, valueOut, eight, entryOut, AppendOut, WalkOut};
+ghost use Rattle.locker.specs.Outs.{startOut, startFound, placeOut, eight, entryOut, AppendOut, WalkOut};
+ghost use Rattle.tracker.specs.State.{view};
+ghost use Rattle.tracker.specs.Sound.{sound};
+ghost use Rattle.told.specs.Told.{FreshOut, ReserveOut, RecordOut, CompleteOut, AbandonOut, CheckpointOut, DrainOut, ClearOut, SlotOut};
 use answers::Refusal;
 use append::Appended;
 use entry::Entry;
@@ -29,6 +32,10 @@ use replay::StartAnswer;
 use scan::Walked;
 use tail::DurableEnd;
 use tail::UsedBound;
+use told::Progress;
+use told::Reserved;
+use tracker::Slot;
+use tracker::Tracker;
 
 // The checksum of the bytes.
 #[no_mangle]
@@ -265,4 +272,152 @@ pub extern "C" fn locker_start_file(
         }
         StartAnswer::Refused(refusal) => answers::number(refusal),
     }
+}
+
+// ---- the tracker
+//
+// Each call reads the tracker and the out parameter behind their pointers, has `told` work on the
+// values, and stores what it hands back. A pointer to a struct takes a proof by hand, a walk along
+// these few lines; what the walks share stands in proofs/Behind.antt.
+
+#[no_mangle]
+pub extern "C" fn locker_tracker_fresh(t: &mut Tracker) -> u32
+    ensures { λ r. ⌜ FreshOut (now (t .exit)) r ⌝ }
+{
+    let old = *t;
+    let told = told::fresh(old);
+    *t = told.tracker;
+    told.answer
+}
+
+#[no_mangle]
+pub extern "C" fn locker_tracker_is_sound(t: &Tracker) -> bool
+    ensures { λ r. ⌜ r ≡ sound (view (now (t .entry))) ⌝ }
+{
+    let old = *t;
+    tracker::is_sound(old)
+}
+
+#[no_mangle]
+pub extern "C" fn locker_tracker_reserve(
+    t: &mut Tracker,
+    shard: usize,
+    ordinal: u64,
+    used: u64,
+    capacity: u64,
+    sealed: bool,
+    length: u64,
+    reserved: &mut Reserved,
+) -> u32
+    ensures { λ r. ⌜ ReserveOut (now (t .entry)) shard ordinal used capacity sealed length (now (reserved .entry)) (now (t .exit)) (now (reserved .exit)) r ⌝ }
+{
+    let old = *t;
+    let before = *reserved;
+    let told = told::reserve(old, shard, ordinal, used, capacity, sealed, length, before);
+    *t = told.tracker;
+    *reserved = told.out;
+    told.answer
+}
+
+#[no_mangle]
+pub extern "C" fn locker_tracker_record(
+    t: &mut Tracker,
+    shard: usize,
+    delta: i8,
+    number: &mut u64,
+) -> u32
+    ensures { λ r. ⌜ RecordOut (now (t .entry)) shard delta (now (number .entry)) (now (t .exit)) (now (number .exit)) r ⌝ }
+{
+    let old = *t;
+    let before = *number;
+    let told = told::record(old, shard, delta, before);
+    *t = told.tracker;
+    *number = told.out;
+    told.answer
+}
+
+#[no_mangle]
+pub extern "C" fn locker_tracker_complete(
+    t: &mut Tracker,
+    shard: usize,
+    number: u64,
+    delta: i8,
+    done: &mut u64,
+) -> u32
+    ensures { λ r. ⌜ CompleteOut (now (t .entry)) shard number delta (now (done .entry)) (now (t .exit)) (now (done .exit)) r ⌝ }
+{
+    let old = *t;
+    let before = *done;
+    let told = told::complete(old, shard, number, delta, before);
+    *t = told.tracker;
+    *done = told.out;
+    told.answer
+}
+
+#[no_mangle]
+pub extern "C" fn locker_tracker_abandon(
+    t: &mut Tracker,
+    shard: usize,
+    number: u64,
+    done: &mut u64,
+) -> u32
+    ensures { λ r. ⌜ AbandonOut (now (t .entry)) shard number (now (done .entry)) (now (t .exit)) (now (done .exit)) r ⌝ }
+{
+    let old = *t;
+    let before = *done;
+    let told = told::abandon(old, shard, number, before);
+    *t = told.tracker;
+    *done = told.out;
+    told.answer
+}
+
+#[no_mangle]
+pub extern "C" fn locker_tracker_checkpoint(
+    t: &Tracker,
+    ordinal: u64,
+    used: u64,
+    progress: &mut Progress,
+) -> u32
+    ensures { λ r. ⌜ CheckpointOut (now (t .entry)) ordinal used (now (progress .entry)) (now (progress .exit)) r ⌝ }
+{
+    let old = *t;
+    let before = *progress;
+    let told = told::checkpoint(old, ordinal, used, before);
+    *progress = told.out;
+    told.answer
+}
+
+#[no_mangle]
+pub extern "C" fn locker_tracker_drain(t: &mut Tracker, limit: u64, sum: &mut i64) -> u32
+    ensures { λ r. ⌜ DrainOut (now (t .entry)) limit (now (sum .entry)) (now (t .exit)) (now (sum .exit)) r ⌝ }
+{
+    let old = *t;
+    let before = *sum;
+    let told = told::drain(old, limit, before);
+    *t = told.tracker;
+    *sum = told.out;
+    told.answer
+}
+
+#[no_mangle]
+pub extern "C" fn locker_tracker_clear(t: &mut Tracker) -> u32
+    ensures { λ r. ⌜ ClearOut (now (t .entry)) (now (t .exit)) r ⌝ }
+{
+    let old = *t;
+    let told = told::clear(old);
+    *t = told.tracker;
+    told.answer
+}
+
+// One slot on its own, as document 01 has it lent.
+#[no_mangle]
+pub extern "C" fn locker_slot_abandon(slot: &mut Slot, number: u64, done: &mut u64) -> u32
+    ensures { λ r. ⌜ SlotOut (now (slot .entry)) number (now (slot .exit)) (now (done .exit)) r ⌝ }
+{
+    let old = *slot;
+    let before = *done;
+    let told = told::abandon_slot(old, number, before);
+    *slot = told.slot;
+    *done = told.out;
+    told.answer
 }

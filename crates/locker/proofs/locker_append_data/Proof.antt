@@ -3,9 +3,8 @@
 use Prim.Native.Nat.{ℕ}
 use mathlib.Core.Path.{sym, ap, _∙_}
 use borrow.Author.Needs.{needs}
-use Rattle.answers.specs.Answers.{Said}
+use Rattle.answers.specs.Answers.{Said, numberSaid, valueOut}
 use Rattle.append.specs.Append.{said}
-use Rattle.locker.specs.Outs.{numberSaid, valueOut}
 use Rattle.locker.proofs.locker_append_data.Statement.{statement}
 use Rattle.locker.proofs.locker_append_data.Tie as tie
 

@@ -3,9 +3,9 @@
 use Prim.Native.Nat.{ℕ}
 use mathlib.Core.Path.{sym, ap, _∙_}
 use borrow.Author.Needs.{needs}
-use Rattle.answers.specs.Answers.{Said}
+use Rattle.answers.specs.Answers.{Said, numberSaid, valueOut}
 use Rattle.tail.specs.Tail.{saidDurable}
-use Rattle.locker.specs.Outs.{numberSaid, valueOut, placeOut}
+use Rattle.locker.specs.Outs.{placeOut}
 use Rattle.locker.proofs.locker_durable_end.Statement.{statement}
 use Rattle.locker.proofs.locker_durable_end.Tie as tie
 

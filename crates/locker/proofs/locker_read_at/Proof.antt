@@ -2,10 +2,10 @@
 -- Assumes nothing.
 use mathlib.Core.Path.{sym, ap, _∙_}
 use borrow.Author.Needs.{needs}
-use Rattle.answers.specs.Answers.{Said}
+use Rattle.answers.specs.Answers.{Said, numberSaid}
 use Rattle.entry.specs.declared.Entry.{Entry}
 use Rattle.read.specs.Reading.{said}
-use Rattle.locker.specs.Outs.{numberSaid, entryOut}
+use Rattle.locker.specs.Outs.{entryOut}
 use Rattle.locker.proofs.locker_read_at.Statement.{statement}
 use Rattle.locker.proofs.locker_read_at.Tie as tie
 

@@ -3,9 +3,9 @@
 use Prim.Native.Nat.{ℕ}
 use mathlib.Core.Path.{_≡_, sym, ap, _∙_}
 use borrow.Author.Needs.{needs}
-use Rattle.answers.specs.Answers.{Said}
+use Rattle.answers.specs.Answers.{Said, numberSaid}
 use Rattle.replay.specs.Start.{Started, saidStart}
-use Rattle.locker.specs.Outs.{numberSaid, startOut, startFound}
+use Rattle.locker.specs.Outs.{startOut, startFound}
 use Rattle.locker.proofs.locker_start_file.Statement.{statement}
 use Rattle.locker.proofs.locker_start_file.Tie as tie
 

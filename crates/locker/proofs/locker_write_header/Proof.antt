@@ -2,7 +2,7 @@
 -- Assumes nothing.
 use mathlib.Core.Path.{ap, _∙_}
 use borrow.Author.Needs.{needs}
-use Rattle.locker.specs.Outs.{numberSaid}
+use Rattle.answers.specs.Answers.{numberSaid}
 use Rattle.locker.proofs.Verdicts.{verdict-number}
 use Rattle.locker.proofs.locker_write_header.Statement.{statement}
 use Rattle.locker.proofs.locker_write_header.Tie as tie

@@ -1,0 +1,15 @@
+-- What a call by value promises is what it tells: the one law behind every function of this crate.
+-- Assumes nothing.
+use Prim.Native.Nat.{ℕ}
+use mathlib.Core.Path.{_≡_, ap, _∙_}
+use Rattle.answers.specs.Answers.{Said, numberSaid}
+use Rattle.tracker.specs.declared.Tracker.{Tracker}
+use Rattle.tracker.specs.State.{State}
+use Rattle.tracker.specs.Outcome.{Met}
+use Rattle.told.specs.Told.{Out}
+
+-- the number and the out parameter follow from what the call said
+pub tells : {A B : Type 0} (f : Said A → B → B) {asked said : Said A} {before after : Tracker} {new : State} (old : B) {out : B} {r : ℕ}
+    → Met A asked said before after new → r ≡ numberSaid said → out ≡ f said old → Out A B asked f before new old after out r
+tells f old m n o =
+    record { says = n ∙ ap numberSaid (m .answer); state = m .state; untouched = m .untouched; tells = o ∙ ap (λ (x : _). f x old) (m .answer) }
