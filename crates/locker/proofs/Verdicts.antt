@@ -1,7 +1,7 @@
 -- A check's number, from its answer in the paper's words.
 -- Assumes nothing.
 use mathlib.Core.Path.{_≡_, refl}
-use Rattle.answers.specs.Numbers.{numberOf, numberOfVerdict}
+use Rattle.answers.specs.Numbers.{numberOfVerdict}
 use Rattle.answers.specs.Answers.{saidVerdict, numberSaid}
 use Rattle.answers.specs.declared.Verdict.{Verdict}
 use Rattle.answers.specs.declared.Verdict.the-variants.{Accepted, Refused}

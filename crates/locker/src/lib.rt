@@ -22,6 +22,7 @@ ghost use Rattle.replay.specs.Start.{startOf};
 ghost use Rattle.locker.specs.Outs.{startOut, startFound, placeOut, eight, entryOut, AppendOut, WalkOut};
 ghost use Rattle.tracker.specs.State.{view};
 ghost use Rattle.tracker.specs.Sound.{sound};
+ghost use Rattle.tracker.specs.Least.{leastOf};
 ghost use Rattle.told.specs.Told.{FreshOut, ReserveOut, RecordOut, CompleteOut, AbandonOut, CheckpointOut, DrainOut, ClearOut, SlotOut};
 use answers::Refusal;
 use append::Appended;
@@ -34,6 +35,7 @@ use tail::DurableEnd;
 use tail::UsedBound;
 use told::Progress;
 use told::Reserved;
+use tracker::Least;
 use tracker::Slot;
 use tracker::Tracker;
 
@@ -420,4 +422,19 @@ pub extern "C" fn locker_slot_abandon(slot: &mut Slot, number: u64, done: &mut u
     *slot = told.slot;
     *done = told.out;
     told.answer
+}
+
+// A run of slots of any length, as document 01 has it lent: the least place and the least open
+// number. Nothing is refused.
+#[no_mangle]
+pub extern "C" fn locker_least_along(
+    slots: &[Slot],
+    ordinal: u64,
+    used: u64,
+    least: &mut Least,
+) -> u32
+    ensures { λ r. ⌜ (r ≡ 0) × (now (least .exit) ≡ leastOf ordinal used (now (slots .entry))) ⌝ }
+{
+    *least = slots::least_along(slots, ordinal, used);
+    0
 }

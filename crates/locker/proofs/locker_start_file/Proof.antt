@@ -1,7 +1,6 @@
 -- `locker::locker_start_file` meets its contract: each arm knows what the definition answers.
 -- Assumes nothing.
-use Prim.Native.Nat.{ℕ}
-use mathlib.Core.Path.{_≡_, sym, ap, _∙_}
+use mathlib.Core.Path.{sym, ap, _∙_}
 use borrow.Author.Needs.{needs}
 use Rattle.answers.specs.Answers.{Said, numberSaid}
 use Rattle.replay.specs.Start.{Started, saidStart}

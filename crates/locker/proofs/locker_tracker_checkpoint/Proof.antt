@@ -1,6 +1,6 @@
 -- `locker::locker_tracker_checkpoint` meets its contract: the values behind its pointers are read, `told` works on them, and what it hands back is stored.
 -- Assumes nothing.
-use mathlib.Core.Path.{_≡_, refl, ap}
+use mathlib.Core.Path.{refl, ap}
 use Prim.Native.Nat.{ℕ}
 use mathlib.Core.List.{[], _∷_, List}
 use denote.Struct.Laws as LL
@@ -14,7 +14,7 @@ use base.Logic.{SProp, ent, emp, via, fst∗, snd∗, exE}
 use base.Fml.{GName, Lft, Share, ftrue, fat, flft, fobs, fbor}
 use prog.Memory.{Memory}
 use prog.Routine.{Routine}
-use prog.Wp.{Heap, Calls, Loops, WpFn, Tables}
+use prog.Wp.{Heap, Calls, Loops, WpFn}
 use ghost.Atoms.{Atoms, sem}
 use contract.Monad.{Fun, fact}
 use contract.Running.{givenOf, tables, tablesOf}
@@ -22,7 +22,7 @@ use types.Kit.{Given, ‵, raw, _⊛_, ⋆, _$_, _∵_, !, qed, by, move, keep, 
 use types.Run.{look, look-raw, store-raw, init, forget, stop, hop, fld, from, load, of-opd, and-then, no-more, assigns, land, returns, enter, alloc1, alloc0, params1, pass1, pass0, free1, free0}
 use types.Part.{whole, sub, look-in}
 use types.SemTy.{Body}
-use sound.WpLaws.{FmC, fmOf, WpFn-mono}
+use sound.WpLaws.{FmC, fmOf}
 use denote.RattleType.{owns}
 use denote.Laws.{Is}
 use denote.Memory.{mem}
@@ -30,15 +30,15 @@ use denote.Ref.{RefT, MutRef, ptr-vals, mut-tells, ShrRef, shr-tells}
 use denote.Signature.{plain}
 use denote.Steps.{only, owned, nothing}
 use denote.Triple.Entry.{onEntry}
-use denote.Triple.Spec.{Meets, tripleOf}
+use denote.Triple.Spec.{tripleOf}
 use denote.Triple.Statement.{Contract, Triple}
 use denote.Triple.Call.{calls-at}
 use denote.Triple.Clauses.{ensured, lasts}
 use denote.Triple.Table.{entered, cited}
-use denote.Triple.Walked.{says, Stays, stay-ref, stay-none, walkOf, AllGo, goes-none, goes-ref, Walks, ends-at, walked, walk-meets, stay-none-ref, goes-none-ref}
+use denote.Triple.Walked.{says, Stays, stay-ref, stay-none, walkOf, goes-none, goes-ref, ends-at, stay-none-ref, goes-none-ref}
 use denote.Exit.{yes}
 use Rattle.told.specs.Told.{CheckpointOut}
-use Rattle.locker.proofs.Behind.{opened, closed, looked, shut, answered, asked}
+use Rattle.locker.proofs.Behind.{opened, closed, looked, shut, answered, asked, met-by}
 use Rattle.told.proofs.Progress as R
 use Rattle.told.proofs.Progress.Laws as R′
 use Rattle.told.proofs.ProgressTold as O
@@ -97,40 +97,33 @@ module _ {M : Type 1} (𝓤 : URA M) (H : Heap 𝓤) (A : Atoms 𝓤) (W : Given
         enter ! C Λ code.function (vptr b₀ o₀ ∷ vint w64 x₁ ∷ vint w64 x₂ ∷ vptr b₁ o₁ ∷ []) _ $
         alloc1 ! (λ l₀. alloc1 ! (λ l₁. alloc1 ! (λ l₂. alloc1 ! (λ l₃. alloc1 ! (λ l₄. alloc1 ! (λ l₅. alloc1 ! (λ l₆. alloc1 ! (λ l₇. alloc0 ! $ params1 ! $ pass1 ! (init ! 12 refl (tt, tt)) $ pass1 ! (init ! 10 refl (uint-lawful 𝓤 H A W w64 .typed x₁ _ is₁ .0)) $ pass1 ! (init ! 8 refl (uint-lawful 𝓤 H A W w64 .typed x₂ _ is₂ .0)) $ pass1 ! (init ! 6 refl (tt, tt)) $ pass0 ! $
         move ! (16 ∷ []) $ fsplit3 ! $ move ! (2 ∷ 19 ∷ []) $ looked ! tt T.the-row (LL.val T.the-type T′.the-laws) (LL.tells T.the-type T′.the-laws) (LL.copy T.the-type T′.the-copy 𝓤 H A W) h₀ b₀ o₀ (λ s was₀. move ! (21 ∷ 22 ∷ 23 ∷ []) $ opened ! tt R.the-row (LL.val R.the-type R′.the-laws) (LL.tells R.the-type R′.the-laws) h₁ b₁ o₁ (λ was₁.
+        -- what lies behind the pointers is copied, and the function that does the work is called on the copies
         assigns ! (of-opd ! (load ! (from ! (hop ! (look ! 21 refl) (stop !))) (look-raw ! 4 refl))) (from ! (stop !)) (init ! 13 refl (LL.lawful T.the-type T′.the-laws 𝓤 H A W .typed h₀ _ was₀ .0)) $
         assigns ! (of-opd ! (load ! (from ! (hop ! (look ! 15 refl) (stop !))) (look-raw ! 0 refl))) (from ! (stop !)) (init ! 11 refl (LL.lawful R.the-type R′.the-laws 𝓤 H A W .typed h₁ _ was₁ .0)) $
         use0 W (raw (G 𝓤 H A at-mem run .pre to)) (asked 𝓤 H A W (T.the-row ∷ u64 ∷ u64 ∷ R.the-row ∷ []) ((LL.makes T.the-type T′.the-plain 𝓤 H A), ((uint-makes 𝓤 H A W w64), ((uint-makes 𝓤 H A W w64), ((LL.makes R.the-type R′.the-plain 𝓤 H A), tt)))) (h₀, (x₁, (x₂, (h₁, tt)))) (LL.val T.the-type T′.the-laws h₀ ∷ [], (vint w64 x₁ ∷ [], (vint w64 x₂ ∷ [], (LL.val R.the-type R′.the-laws h₁ ∷ [], tt)))) (was₀, (is₁, (is₂, (was₁, tt))))) $
         calls-at ! fm (G 𝓤 H A at-mem run) known to (and-then ! (load ! (from ! (stop !)) (look ! 14 refl)) (and-then ! (load ! (from ! (stop !)) (look ! 20 refl)) (and-then ! (load ! (from ! (stop !)) (look ! 18 refl)) (and-then ! (load ! (from ! (stop !)) (look ! 12 refl)) (no-more !))))) (λ v.
         answered ! tt O.the-row (λ r. CheckpointOut h₀ x₁ x₂ h₁ (r .out) (r .answer)) (λ r. ensured 𝓤 H A g.ended (g.clauses 𝓤 H A at-mem run) tt (h₀, (x₁, (x₂, (h₁, tt)))) tt r) said v (λ r e is.
+        -- what it hands back is stored
         let fields = LL.owed O.the-type O′.the-laws r (v ∷ []) is in
         land ! (from ! (stop !)) (init ! 9 refl (LL.lawful O.the-type O′.the-laws 𝓤 H A W .typed r _ is .0)) $
         rewrite ! 9 (λ (z : Val). ‵ (fat fullShare O′.mir l₇ 0 z)) (ap only (LL.tells O.the-type O′.the-laws r _ is)) refl $
         assigns ! (of-opd ! (load ! (from ! (fld ! refl (stop !))) (look-in ! 9 (sub ! 0 refl (whole !))))) (from ! (hop ! (look ! 15 refl) (stop !))) (store-raw ! 0 refl (LL.lawful R.the-type R′.the-laws 𝓤 H A W .typed (r .out) _ (fields .0) .0)) $
         assigns ! (of-opd ! (load ! (from ! (fld ! refl (stop !))) (look-in ! 9 (sub ! 1 refl (whole !))))) (from ! (stop !)) (init ! 23 refl (uint-lawful 𝓤 H A W w32 .typed (r .answer) _ (fields .1 .0) .0)) $
         move ! (0 ∷ 1 ∷ 2 ∷ 3 ∷ []) $ closed ! tt R.the-row (LL.val R.the-type R′.the-laws) (LL.makes R.the-type R′.the-plain 𝓤 H A) (r .out) (fields .0) b₁ o₁ $ move ! (3 ∷ 4 ∷ []) $ shut ! tt T.the-row (LL.val T.the-type T′.the-laws) (LL.makes T.the-type T′.the-plain 𝓤 H A) s h₀ was₀ b₀ o₀ $ move ! (5 ∷ 6 ∷ 4 ∷ []) $ fjoin3 ! $
+        -- the locals are freed
         returns ! (look ! 19 refl) $ forget ! 5 refl $ forget ! 7 refl $ forget ! 9 refl $ forget ! 11 refl $ forget ! 13 refl $ forget ! 15 refl $ forget ! 17 refl $ forget ! 19 refl $
         move ! (19 ∷ 20 ∷ []) $ free1 ! $ move ! (17 ∷ 18 ∷ []) $ free1 ! $ move ! (15 ∷ 16 ∷ []) $ free1 ! $ move ! (13 ∷ 14 ∷ []) $ free1 ! $ move ! (11 ∷ 12 ∷ []) $ free1 ! $ move ! (9 ∷ 10 ∷ []) $ free1 ! $ move ! (7 ∷ 8 ∷ []) $ free1 ! $ move ! (5 ∷ 6 ∷ []) $ free1 ! $ free0 ! $
         keep ! (0 ∷ 1 ∷ 2 ∷ 3 ∷ 4 ∷ []) $ by ! (exits r e (fields .1 .0))))))))))))))
 
-module _ {M : Type 1} (𝓤 : URA M) (H : Heap 𝓤) (A : Atoms 𝓤) (W : Given 𝓤 H A) (at-mem : Memory → SProp 𝓤) (run : Routine → Fun 𝓤) where
-  walks : (C : Calls 𝓤 H) (Λ : Loops 𝓤 H) → FmC 𝓤 H (W .laws) C → Triple 𝓤 (C #g) (G 𝓤 H A at-mem run) → Walks 𝓤 H A f.ended stayed (WpFn 𝓤 H C Λ code.function) (f.clauses 𝓤 H A at-mem run)
-  walks C Λ fm known =
-      walked 𝓤 H A f.ended stayed (f.clauses 𝓤 H A at-mem run) (WpFn 𝓤 H C Λ code.function) (λ κs. (ptr-vals, (uint-vals w64, (uint-vals w64, (ptr-vals, tt))))) (λ κs. (shr-tells (named 0) (κs .0) T.the-row, (uint-tells w64, (uint-tells w64, (mut-tells (named 1) (κs .1 .0) R.the-row, tt)))))
-      (λ κs qs bounds a _ are. via 𝓤 _ (fst∗ 𝓤 _ (emp 𝓤)) (walk 𝓤 H A W at-mem run (κs .0) (κs .1 .0) (qs .0) (qs .1 .0) (a .0 .ptr .0) (a .0 .ptr .1) (a .1 .1 .1 .0 .ptr .0) (a .1 .1 .1 .0 .ptr .1) (a .0 .name) (a .1 .1 .1 .0 .name) (a .0 .now) (a .1 .0) (a .1 .1 .0) (a .1 .1 .1 .0 .now) (are .1 .0) (are .1 .1 .0) C Λ fm known))
-
-  goes : AllGo 𝓤 H A W 2 (f.signature .params) (f.ended .kept) stayed
-  goes = (goes-none-ref 𝓤 H A W 2 (0 ∷ []) tt (plain (λ _. T.the-row)) yes, (goes-none 𝓤 H A W 2 (λ _. u64) yes (λ κs x f. refl), (goes-none 𝓤 H A W 2 (λ _. u64) yes (λ κs x f. refl), (goes-ref 𝓤 H A W 2 1 tt (plain (λ _. R.the-row)), tt))))
-
-meets : {M : Type 1} (𝓤 : URA M) (H : Heap 𝓤) (A : Atoms 𝓤) → Given 𝓤 H A → (at-mem : Memory → SProp 𝓤) (run : Routine → Fun 𝓤) (𝓣 : Tables 𝓤 H)
-    → Triple 𝓤 (𝓣 .C #g) (G 𝓤 H A at-mem run) → Meets 𝓤 H A f.signature (WpFn 𝓤 H (𝓣 .C) (𝓣 .Λ) code.function) (f.spec 𝓤 H A at-mem run)
-meets 𝓤 H A W at-mem run 𝓣 known =
-    walk-meets 𝓤 H A f.ended stayed W (goes 𝓤 H A W at-mem run) (f.clauses 𝓤 H A at-mem run) (WpFn 𝓤 H (𝓣 .C) (𝓣 .Λ) code.function) (WpFn-mono 𝓤 H (W .laws) 𝓣 code.function)
-    (walks 𝓤 H A W at-mem run (𝓣 .C) (𝓣 .Λ) (fmOf 𝓤 H (W .laws) 𝓣) known)
-
 pub locker-tracker-checkpoint-spec : {M : Type 1} → stated.statement M
 unfolding code.routine tablesOf
 locker-tracker-checkpoint-spec 𝓤 H 𝓜 𝓖 𝓡 =
+    let W = givenOf 𝓤 H 𝓜 𝓖 in
+    let 𝓣 = tablesOf 𝓤 H 𝓜 (tables 𝓤 H 𝓜 𝓡 code.env) in
+    let known = cited 𝓤 H (G 𝓤 H (𝓖 .A) (𝓜 .mem) (𝓡 .run)) 𝓜 𝓡 code.env #g g-def.routine code.calls-told·checkpoint (g-thm.met 𝓤 H 𝓜 𝓖 𝓡) in
     entered 𝓤 H (tripleOf 𝓤 H (𝓖 .A) f.signature (f.spec 𝓤 H (𝓖 .A) (𝓜 .mem) (𝓡 .run)))
     (tables 𝓤 H 𝓜 𝓡 code.env .C) (tables 𝓤 H 𝓜 𝓡 code.env .Λ) #f code.function (code.unfolded 𝓤 H 𝓜 𝓡)
-    (meets 𝓤 H (𝓖 .A) (givenOf 𝓤 H 𝓜 𝓖) (𝓜 .mem) (𝓡 .run) (tablesOf 𝓤 H 𝓜 (tables 𝓤 H 𝓜 𝓡 code.env))
-    (cited 𝓤 H (G 𝓤 H (𝓖 .A) (𝓜 .mem) (𝓡 .run)) 𝓜 𝓡 code.env #g g-def.routine code.calls-told·checkpoint (g-thm.met 𝓤 H 𝓜 𝓖 𝓡)))
+    (met-by 𝓤 H (𝓖 .A) W 𝓣 code.function f.ended stayed
+    (goes-none-ref 𝓤 H (𝓖 .A) W 2 (0 ∷ []) tt (plain (λ _. T.the-row)) yes, (goes-none 𝓤 H (𝓖 .A) W 2 (λ _. u64) yes (λ κs x f. refl), (goes-none 𝓤 H (𝓖 .A) W 2 (λ _. u64) yes (λ κs x f. refl), (goes-ref 𝓤 H (𝓖 .A) W 2 1 tt (plain (λ _. R.the-row)), tt))))
+    (f.clauses 𝓤 H (𝓖 .A) (𝓜 .mem) (𝓡 .run)) (λ κs. (ptr-vals, (uint-vals w64, (uint-vals w64, (ptr-vals, tt))))) (λ κs. (shr-tells (named 0) (κs .0) T.the-row, (uint-tells w64, (uint-tells w64, (mut-tells (named 1) (κs .1 .0) R.the-row, tt)))))
+    (λ κs qs bounds a _ are. via 𝓤 _ (fst∗ 𝓤 _ (emp 𝓤)) (walk 𝓤 H (𝓖 .A) W (𝓜 .mem) (𝓡 .run) (κs .0) (κs .1 .0) (qs .0) (qs .1 .0) (a .0 .ptr .0) (a .0 .ptr .1) (a .1 .1 .1 .0 .ptr .0) (a .1 .1 .1 .0 .ptr .1) (a .0 .name) (a .1 .1 .1 .0 .name) (a .0 .now) (a .1 .0) (a .1 .1 .0) (a .1 .1 .1 .0 .now) (are .1 .0) (are .1 .1 .0) (𝓣 .C) (𝓣 .Λ) (fmOf 𝓤 H (W .laws) 𝓣) known)))

@@ -1,6 +1,6 @@
 -- `told::abandon_slot` meets its contract: each arm knows what the slot answered.
 -- Assumes nothing.
-use mathlib.Core.Path.{_≡_, refl, sym, ap, _∙_}
+use mathlib.Core.Path.{refl, sym, ap, _∙_}
 use borrow.Author.Needs.{needs}
 use Rattle.slots.specs.Slots.{saidSlot}
 use Rattle.told.specs.Told.{doneNumber}

@@ -1,10 +1,9 @@
 -- `told::checkpoint` meets its contract: each arm knows what the call said.
 -- Assumes nothing.
-use mathlib.Core.Path.{_≡_, sym, ap, _∙_}
+use mathlib.Core.Path.{sym, ap, _∙_}
 use borrow.Author.Needs.{needs}
 use Rattle.answers.specs.Answers.{Said, numberSaid}
 use Rattle.tracker.specs.Checkpoints.{Reached, saidCheckpoint}
-use Rattle.tracker.specs.declared.CheckpointAnswer.{CheckpointAnswer}
 use Rattle.told.specs.declared.Progress.{Progress}
 use Prim.Native.Nat.{ℕ}
 use Rattle.told.specs.Told.{progressOut}

@@ -1,8 +1,8 @@
 -- `told::clear` meets its contract: each arm knows what the call said.
 -- Assumes nothing.
-use mathlib.Core.Path.{_≡_, sym, ap, _∙_}
+use mathlib.Core.Path.{sym, ap, _∙_}
 use borrow.Author.Needs.{needs}
-use Rattle.answers.specs.Answers.{Said, numberSaid}
+use Rattle.answers.specs.Answers.{numberSaid}
 use Rattle.tracker.specs.Clearing.{saidClear}
 use Rattle.tracker.specs.declared.ClearAnswer.{ClearAnswer}
 use Rattle.told.proofs.Tells.{tells}

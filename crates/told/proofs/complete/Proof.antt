@@ -1,6 +1,5 @@
 -- `told::complete` meets its contract: the two helpers tell what the call said.
 -- Assumes nothing.
-use mathlib.Core.Path.{_≡_, sym, ap, _∙_}
 use borrow.Author.Needs.{needs}
 use Rattle.told.specs.Told.{doneOut}
 use Rattle.told.proofs.Tells.{tells}

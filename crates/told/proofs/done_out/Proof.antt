@@ -1,8 +1,7 @@
 -- `told::done_out` meets its contract.
 -- Assumes nothing.
-use mathlib.Core.Path.{_≡_, sym, ap, _∙_}
+use mathlib.Core.Path.{sym, ap}
 use borrow.Author.Needs.{needs}
-use Rattle.answers.specs.Answers.{numberSaid}
 use Rattle.tracker.specs.Finishing.{saidFinish}
 use Rattle.tracker.specs.declared.FinishAnswer.{FinishAnswer}
 use Rattle.told.specs.Told.{doneOut}

@@ -1,8 +1,8 @@
 -- `told::drain` meets its contract: each arm knows what the call said.
 -- Assumes nothing.
-use mathlib.Core.Path.{_≡_, sym, ap, _∙_}
+use mathlib.Core.Path.{sym, ap, _∙_}
 use borrow.Author.Needs.{needs}
-use Rattle.answers.specs.Answers.{Said, numberSaid, valueOut}
+use Rattle.answers.specs.Answers.{numberSaid, valueOut}
 use Rattle.tracker.specs.Draining.{saidDrain}
 use Rattle.tracker.specs.declared.DrainAnswer.{DrainAnswer}
 use Rattle.told.proofs.Tells.{tells}

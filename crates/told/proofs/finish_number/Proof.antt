@@ -1,11 +1,10 @@
 -- `told::finish_number` meets its contract.
 -- Assumes nothing.
-use mathlib.Core.Path.{_≡_, sym, ap, _∙_}
+use mathlib.Core.Path.{sym, ap, _∙_}
 use borrow.Author.Needs.{needs}
 use Rattle.answers.specs.Answers.{numberSaid}
 use Rattle.tracker.specs.Finishing.{saidFinish}
 use Rattle.tracker.specs.declared.FinishAnswer.{FinishAnswer}
-use Rattle.told.specs.Told.{doneOut}
 use Rattle.told.proofs.finish_number.Statement.{statement}
 use Rattle.told.proofs.finish_number.Tie as tie
 

@@ -1,8 +1,8 @@
 -- `told::record` meets its contract: each arm knows what the call said.
 -- Assumes nothing.
-use mathlib.Core.Path.{_≡_, sym, ap, _∙_}
+use mathlib.Core.Path.{sym, ap, _∙_}
 use borrow.Author.Needs.{needs}
-use Rattle.answers.specs.Answers.{Said, numberSaid, valueOut}
+use Rattle.answers.specs.Answers.{numberSaid, valueOut}
 use Rattle.tracker.specs.Recording.{saidRecord}
 use Rattle.tracker.specs.declared.RecordAnswer.{RecordAnswer}
 use Rattle.told.proofs.Tells.{tells}

@@ -1,8 +1,8 @@
 -- `told::reserve` meets its contract: each arm knows what the call said.
 -- Assumes nothing.
-use mathlib.Core.Path.{_≡_, sym, ap, _∙_}
+use mathlib.Core.Path.{sym, ap, _∙_}
 use borrow.Author.Needs.{needs}
-use Rattle.answers.specs.Answers.{Said, numberSaid}
+use Rattle.answers.specs.Answers.{numberSaid}
 use Rattle.tracker.specs.Reserving.{saidReserve}
 use Rattle.tracker.specs.declared.ReserveAnswer.{ReserveAnswer}
 use Rattle.told.specs.Told.{reservedOut}
