@@ -1,10 +1,10 @@
 -- What a call by value promises is what it tells: the one law behind every function of this crate.
 -- Assumes nothing.
 use Prim.Native.Nat.{ℕ}
-use mathlib.Core.Path.{_≡_, ap, _∙_}
+use mathlib.Core.Path.{_≡_, sym, ap, _∙_}
 use Rattle.answers.specs.Answers.{Said, numberSaid}
 use Rattle.tracker.specs.declared.Tracker.{Tracker}
-use Rattle.tracker.specs.State.{State}
+use Rattle.tracker.specs.State.{State, view}
 use Rattle.tracker.specs.Outcome.{Met}
 use Rattle.told.specs.Told.{Out}
 
@@ -13,3 +13,8 @@ pub tells : {A B : Type 0} (f : Said A → B → B) {asked said : Said A} {befor
     → Met A asked said before after new → r ≡ numberSaid said → out ≡ f said old → Out A B asked f before new old after out r
 tells f old m n o =
     record { says = n ∙ ap numberSaid (m .answer); state = m .state; untouched = m .untouched; tells = o ∙ ap (λ (x : _). f x old) (m .answer) }
+
+-- no second number, view or out parameter fits
+pub out-only : {A B : Type 0} {asked : Said A} {f : Said A → B → B} {before : Tracker} {new : State} {old : B} {after after′ : Tracker} {out out′ : B} {r r′ : ℕ}
+    → Out A B asked f before new old after out r → Out A B asked f before new old after′ out′ r′ → (r ≡ r′) × ((view after ≡ view after′) × (out ≡ out′))
+out-only a b = (a .says ∙ sym (b .says), (a .state ∙ sym (b .state), a .tells ∙ sym (b .tells)))
