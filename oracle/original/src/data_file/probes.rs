@@ -7,6 +7,8 @@ use std::{
 use super::*;
 use crate::types::Failure;
 
+mod again;
+
 thread_local! {
     static INSIDE: std::cell::Cell<bool> = const { std::cell::Cell::new(false) };
 }

@@ -1,0 +1,485 @@
+//! The cases: what each side is asked, how long that takes, and that all sides give the same answer.
+use std::{
+    fmt::{Debug, Display, Formatter},
+    os::fd::FromRawFd,
+    time::Instant,
+};
+
+use original::{Failure, File};
+
+use crate::{
+    library,
+    report::{grouped, Panel, Row, SIDES},
+    rng::Rng,
+};
+
+/// What an entry is made of; a tombstone has no value.
+pub struct MakeUp {
+    pub length: u64,
+    key: usize,
+    value: Option<usize>,
+    pub words: &'static str,
+}
+
+pub const ENTRIES: [MakeUp; 4] = [
+    MakeUp { length: 16, key: 8, value: None, words: "a tombstone, key of 8 bytes" },
+    MakeUp { length: 32, key: 8, value: Some(14), words: "data, key of 8 bytes, value of 14" },
+    MakeUp { length: 4096, key: 16, value: Some(4070), words: "data, key of 16 bytes, value of 4,070" },
+    MakeUp {
+        length: 36_874,
+        key: 4096,
+        value: Some(32_768),
+        words: "data, the longest key (4,096 bytes) and the longest value (32,768), filled up to 36,880 bytes",
+    },
+];
+
+impl MakeUp {
+    fn aligned(&self) -> u64 {
+        self.length.next_multiple_of(16)
+    }
+}
+
+/// How much is asked in a run.
+pub struct Sizes {
+    pub rounds: u32,
+    /// The region that is scanned.
+    pub region: usize,
+    /// The hostile region.
+    pub hostile: usize,
+    /// Appends in a row, and the bytes that they fill at most.
+    pub appends: u64,
+    pub append_bytes: u64,
+    /// Tracker calls in a row.
+    pub pairs: u64,
+}
+
+/// What the original's figures have in them beside its own work.
+#[derive(Default)]
+pub struct System {
+    /// MB/s of reading the whole file into a buffer of the original's size.
+    pub reading: f64,
+    /// ns of one write, by the entry's length.
+    pub writing: Vec<(u64, f64)>,
+}
+
+#[derive(Clone, Copy, PartialEq, Eq)]
+enum Side {
+    Library,
+    One,
+    Sixteen,
+}
+
+impl Display for Side {
+    fn fmt(&self, formatter: &mut Formatter) -> std::fmt::Result {
+        write!(formatter, "the {}", SIDES[*self as usize])
+    }
+}
+
+/// A side that takes more seconds than this is asked once.
+pub const SLOW: f64 = 3.0;
+
+fn told(failure: Failure) -> String {
+    format!("the original fails: {failure:?}")
+}
+
+/// The seconds that a call takes, and its answer.
+fn timed<A>(call: impl FnOnce() -> Result<A, String>) -> Result<(f64, A), String> {
+    let start = Instant::now();
+    let answer = call()?;
+    Ok((start.elapsed().as_secs_f64(), answer))
+}
+
+/// An answer in few letters.
+fn brief(answer: &impl Debug) -> String {
+    let text = format!("{answer:?}");
+    match text.char_indices().nth(120) {
+        Some((at, _)) => format!("{} ..", &text[..at]),
+        None => text,
+    }
+}
+
+/// The sides in turns, round by round: the fewest seconds of each. All answers have to be the same, in all rounds.
+fn in_turns<A: PartialEq + Debug>(
+    rounds: u32,
+    mut ask: impl FnMut(Side) -> Result<(f64, A), String>,
+) -> Result<[f64; 3], String> {
+    let mut fewest = [f64::INFINITY; 3];
+    let mut right: Option<A> = None;
+    for round in 0..rounds {
+        for (side, fewest) in [Side::Library, Side::One, Side::Sixteen].into_iter().zip(&mut fewest) {
+            if round > 0 && *fewest > SLOW {
+                continue;
+            }
+            crc16_ibm3740_fast::take_sixteen_bytes_a_step(side == Side::Sixteen);
+            let (seconds, answer) = ask(side)?;
+            *fewest = fewest.min(seconds);
+            match &right {
+                Some(right) if *right != answer => {
+                    let (answer, right) = (brief(&answer), brief(right));
+                    return Err(format!("{side} answers {answer}, where the library's first answer was {right}"));
+                }
+                Some(_) => {}
+                None => right = Some(answer),
+            }
+        }
+    }
+    Ok(fewest)
+}
+
+extern "C" {
+    fn memfd_create(name: *const std::ffi::c_char, flags: std::ffi::c_uint) -> std::ffi::c_int;
+}
+
+/// A file in memory that has no name in any folder.
+fn file_in_memory() -> Result<std::fs::File, String> {
+    // SAFETY: a name that ends with 0, and no flags.
+    let number = unsafe { memfd_create(c"bench".as_ptr(), 0) };
+    if number < 0 {
+        return Err(format!("the system gives no file in memory: {}", std::io::Error::last_os_error()));
+    }
+    // SAFETY: the file was opened just now, and nobody else has its number.
+    Ok(unsafe { std::fs::File::from_raw_fd(number) })
+}
+
+/// The mark of the line at `place` as the word's low 24 bits, by document 01.
+fn mark(place: usize) -> u32 {
+    ((place / 16 + 0x5a_17c0) % (1 << 24)) as u32
+}
+
+/// The forms of the checksum's stand-in are held to the catalogue's rule, and so is the library's.
+pub fn check_checksums() -> Result<u64, String> {
+    let mut rng = Rng::new(1);
+    let bytes = rng.bytes(70_000);
+    let mut count = 0;
+    let short = (0..600).map(|length| length % 13..length % 13 + length);
+    let long = (0..60).map(|i| (i * 17) % 64..1000 * i + 1000 + i % 16);
+    for range in short.chain(long) {
+        let part = &bytes[range];
+        let right = crc16_ibm3740_fast::hash_by_bits(part);
+        for sixteen in [false, true] {
+            crc16_ibm3740_fast::take_sixteen_bytes_a_step(sixteen);
+            if crc16_ibm3740_fast::hash(part) != right {
+                let form = if sixteen { "sixteen bytes" } else { "one byte" };
+                return Err(format!("the checksum of {form} a step is wrong for {} bytes", part.len()));
+            }
+        }
+        if library::hash(part) != right {
+            return Err(format!("the library's checksum is wrong for {} bytes", part.len()));
+        }
+        count += 1;
+    }
+    crc16_ibm3740_fast::take_sixteen_bytes_a_step(false);
+    Ok(count)
+}
+
+/// The library's region in memory, and the original's file with the same bytes, in memory as well.
+pub struct Bench {
+    pub sizes: Sizes,
+    region: Vec<u8>,
+    file: File,
+    /// Random bytes of which keys and values are cut.
+    pool: Vec<u8>,
+    rng: Rng,
+    pub system: System,
+    pub rows: Vec<Row>,
+}
+
+impl Bench {
+    pub fn new(sizes: Sizes) -> Result<Self, String> {
+        let mut rng = Rng::new(1);
+        Ok(Bench {
+            region: vec![0; sizes.region],
+            file: File::new(file_in_memory()?),
+            pool: rng.bytes(1 << 16),
+            rng,
+            system: System::default(),
+            rows: vec![],
+            sizes,
+        })
+    }
+
+    /// All cases, one after the other.
+    pub fn run(&mut self) -> Result<(), String> {
+        self.file.set_length(self.region.len() as u64);
+        for entry in &ENTRIES {
+            self.named(&format!("durable end, entries of {}", bytes(entry.length)), |bench| bench.full(entry))?;
+        }
+        self.named("durable end, every mark wrong", Self::wrong_marks)?;
+        self.named("used bound of zeros", Self::zeros)?;
+        for entry in &ENTRIES {
+            self.named(&format!("append of {}", bytes(entry.length)), |bench| bench.appends(entry))?;
+        }
+        self.tracker()?;
+        self.named("durable end, hostile", Self::hostile)
+    }
+
+    /// Tells which case is measured, and which one failed.
+    fn named(&mut self, name: &str, case: impl FnOnce(&mut Self) -> Result<(), String>) -> Result<(), String> {
+        eprintln!("measuring: {name}");
+        case(self).map_err(|why| format!("{name}: {why}"))
+    }
+
+    fn row(&mut self, panel: Panel, title: &str, label: &str, figures: [f64; 3]) {
+        self.rows.push(Row { panel, title: title.to_string(), label: label.to_string(), figures });
+    }
+
+    /// The durable end up to `bound`, which all sides have to give as `right`.
+    fn durable_end(&mut self, bound: u64, right: u64) -> Result<[f64; 3], String> {
+        let (region, file) = (&self.region[..self.file.length_now() as usize], &self.file);
+        in_turns(self.sizes.rounds, |side| {
+            let (seconds, end) = timed(|| match side {
+                Side::Library => library::durable_end(region, bound),
+                _ => file.durable_end(bound).map_err(told),
+            })?;
+            if end != right {
+                return Err(format!("{side} answers {end} instead of {right}"));
+            }
+            Ok((seconds, end))
+        })
+    }
+
+    /// The used bound, which all sides have to give as `right`.
+    fn used_bound(&mut self, rounds: u32, right: u64) -> Result<[f64; 3], String> {
+        let (region, file) = (&self.region[..self.file.length_now() as usize], &self.file);
+        in_turns(rounds, |side| {
+            let (seconds, bound) = timed(|| match side {
+                Side::Library => library::used_bound(region),
+                _ => file.used_bound(region.len() as u64).map_err(told),
+            })?;
+            if bound != right {
+                return Err(format!("{side} answers {bound} instead of {right}"));
+            }
+            Ok((seconds, bound))
+        })
+    }
+
+    /// A region full of entries of one make-up, no two neighbours the same.
+    fn full(&mut self, entry: &MakeUp) -> Result<(), String> {
+        self.region.fill(0);
+        let count = self.region.len() as u64 / entry.aligned();
+        let mut used = 0;
+        for i in 0..count {
+            let at = (i * 61 % 8192) as usize;
+            let (key, rest) = self.pool[at..].split_at(entry.key);
+            used = library::append(&mut self.region, used, i % 64, key, entry.value.map(|length| &rest[..length]))?;
+        }
+        if used != count * entry.aligned() {
+            return Err(format!("{count} appends gave the used count {used}"));
+        }
+        self.file.put(0, &self.region);
+        self.used_bound(1, used)?;
+        let seconds = self.durable_end(used, used)?;
+        let speed = seconds.map(|s| used as f64 / s / 1e6);
+        let label = format!("entries of {}", bytes(entry.length));
+        self.row(Panel::Scan, &format!("durable end, {label}"), &label, speed);
+        Ok(())
+    }
+
+    /// No line has its mark, and none is zero.
+    fn wrong_marks(&mut self) -> Result<(), String> {
+        for (i, line) in self.region.chunks_exact_mut(16).enumerate() {
+            line[..8].copy_from_slice(&self.rng.next().to_le_bytes());
+            line[8..].copy_from_slice(&(self.rng.next() | 1 << 63).to_le_bytes());
+            let wrong = mark(16 * i) ^ 0x80_0001;
+            line[..3].copy_from_slice(&wrong.to_le_bytes()[..3]);
+        }
+        self.file.put(0, &self.region);
+        let length = self.region.len() as u64;
+        self.used_bound(1, length)?;
+        let seconds = self.durable_end(length, 0)?;
+        let speed = seconds.map(|s| length as f64 / s / 1e6);
+        self.row(Panel::Scan, "durable end, every mark wrong", "every mark wrong", speed);
+        Ok(())
+    }
+
+    /// Zeros that were written: pages of their own on both sides.
+    fn zeros(&mut self) -> Result<(), String> {
+        self.region.fill(0);
+        self.file.put(0, &self.region);
+        let length = self.region.len() as u64;
+        let seconds = self.used_bound(self.sizes.rounds, 0)?;
+        let speed = seconds.map(|s| length as f64 / s / 1e6);
+        self.row(Panel::Scan, "used bound of zeros", "used bound of zeros", speed);
+        let mut fewest = f64::INFINITY;
+        for _ in 0..self.sizes.rounds {
+            fewest = fewest.min(timed(|| self.file.read_all(length).map_err(told))?.0);
+        }
+        self.system.reading = length as f64 / fewest / 1e6;
+        Ok(())
+    }
+
+    /// Appends of one make-up from the region's start on, over zeros.
+    fn appends(&mut self, entry: &MakeUp) -> Result<(), String> {
+        let length = self.region.len().min(self.sizes.append_bytes as usize);
+        let count = (length as u64 / entry.aligned()).min(self.sizes.appends);
+        let used = (count * entry.aligned()) as usize;
+        let (key, rest) = self.pool.split_at(entry.key);
+        let value = entry.value.map(|length| &rest[..length]);
+        let (region, file) = (&mut self.region, &mut self.file);
+        let zeros = vec![0; used];
+        let capacity = region.len() as u32;
+        let seconds = in_turns(self.sizes.rounds, |side| {
+            if side == Side::Library {
+                region[..used].fill(0);
+                timed(|| {
+                    let mut used = 0;
+                    for i in 0..count {
+                        used = library::append(region, used, i % 64, key, value)?;
+                    }
+                    Ok(used)
+                })
+            } else {
+                file.put(0, &zeros);
+                let answer = timed(|| file.append_again(capacity, key, value, count).map_err(told))?;
+                if file.get(0, used) != region[..used] {
+                    return Err(format!("{side} writes other bytes than the library"));
+                }
+                Ok(answer)
+            }
+        })?;
+        let each = seconds.map(|s| s / count as f64 * 1e9);
+        let mut fewest = f64::INFINITY;
+        for _ in 0..self.sizes.rounds {
+            let line = &zeros[..entry.aligned() as usize];
+            fewest = fewest.min(timed(|| file.write_again(line, count).map_err(told))?.0);
+        }
+        self.system.writing.push((entry.length, fewest / count as f64 * 1e9));
+        let label = bytes(entry.length);
+        self.row(Panel::Append, &format!("append of {label}"), &label, each);
+        Ok(())
+    }
+
+    #[cfg(not(tracker_exports))]
+    fn tracker(&mut self) -> Result<(), String> {
+        Ok(())
+    }
+
+    #[cfg(tracker_exports)]
+    fn tracker(&mut self) -> Result<(), String> {
+        self.named("tracker, reserve and complete", |bench| {
+            bench.tracker_calls("reserve and complete", &busy(), |calls| match calls {
+                Calls::Library(tracker, count) => {
+                    tracker.reserve_and_complete_again(3, 7, ROOM, 16, count).map(|used| used as i64)
+                }
+                Calls::Original(tracker, file, count) => {
+                    let used = tracker.reserve_and_complete_again(file, 3, 7, ROOM, 16, count);
+                    used.map(|used| used as i64).map_err(told)
+                }
+            })
+        })?;
+        self.named("tracker, record and drain", |bench| {
+            bench.tracker_calls("record and drain", &fresh(), |calls| match calls {
+                Calls::Library(tracker, count) => tracker.record_and_drain_again(3, 1, count),
+                Calls::Original(tracker, _, count) => tracker.record_and_drain_again(3, 1, count).map_err(told),
+            })
+        })?;
+        self.named("tracker, checkpoint", |bench| {
+            bench.tracker_calls("checkpoint", &busy(), |calls| match calls {
+                Calls::Library(tracker, count) => tracker.checkpoint_again(7, 8, count).map(|total| total as i64),
+                Calls::Original(tracker, file, count) => {
+                    tracker.checkpoint_again(file, 7, 8, count).map(|total| total as i64).map_err(told)
+                }
+            })
+        })
+    }
+
+    /// One row of tracker calls from `state` on; the state afterwards is part of the answer.
+    #[cfg(tracker_exports)]
+    fn tracker_calls(
+        &mut self,
+        name: &str,
+        state: &original::State,
+        mut calls: impl FnMut(Calls) -> Result<i64, String>,
+    ) -> Result<(), String> {
+        let (count, file) = (self.sizes.pairs, &mut self.file);
+        let seconds = in_turns(self.sizes.rounds, |side| {
+            if side == Side::Library {
+                let mut tracker = library::tracker::Tracker::of(state);
+                let (seconds, answer) = timed(|| calls(Calls::Library(&mut tracker, count)))?;
+                Ok((seconds, (answer, tracker.state())))
+            } else {
+                let tracker = original::Tracker::new();
+                tracker.set_state(state);
+                let (seconds, answer) = timed(|| calls(Calls::Original(&tracker, file, count)))?;
+                Ok((seconds, (answer, tracker.state())))
+            }
+        })?;
+        self.row(Panel::Tracker, &format!("tracker, {name}"), name, seconds.map(|s| s / count as f64 * 1e9));
+        Ok(())
+    }
+
+    /// Every line has its mark and asks for the longest entry there can be; no checksum agrees.
+    fn hostile(&mut self) -> Result<(), String> {
+        let length = self.sizes.hostile;
+        let region = &mut self.region[..length];
+        for (i, line) in region.chunks_exact_mut(16).enumerate() {
+            line[..4].copy_from_slice(&mark(16 * i).to_le_bytes());
+            line[4..8].fill(0xff);
+            line[8..].copy_from_slice(&self.rng.next().to_le_bytes());
+        }
+        while let Some(place) = last_verified(region) {
+            region[place + 8..place + 16].copy_from_slice(&self.rng.next().to_le_bytes());
+        }
+        self.file.set_length(length as u64);
+        self.file.put(0, region);
+        let seconds = self.durable_end(length as u64, 0)?;
+        let label = bytes(length as u64);
+        self.row(Panel::Hostile, &format!("durable end, hostile {label}"), &label, seconds);
+        Ok(())
+    }
+}
+
+/// The last line of a hostile region whose checksum agrees all the same. The sums come from the registers that one pass
+/// over the region leaves behind, since the checksum is linear: no entry is summed up on its own.
+fn last_verified(region: &[u8]) -> Option<usize> {
+    use crc16_ibm3740_fast::update;
+    const SUMMED: usize = 8 + 65_535 + 65_535;
+    let zeros = vec![0; SUMMED];
+    let moved: [u16; 16] = std::array::from_fn(|bit| update(1 << bit, &zeros));
+    let past = |register: u16| (0..16).filter(|bit| register >> bit & 1 == 1).fold(0, |sum, bit| sum ^ moved[bit]);
+    let mut before = vec![0; region.len() + 1];
+    for (i, byte) in region.iter().enumerate() {
+        before[i + 1] = update(before[i], &[*byte]);
+    }
+    (0..region.len()).step_by(16).rev().find(|&place| {
+        let end = place + SUMMED;
+        end + 2 <= region.len()
+            && before[end] ^ past(before[place] ^ 0xffff) == u16::from_le_bytes([region[end], region[end + 1]])
+    })
+}
+
+/// "4,096 bytes".
+fn bytes(count: u64) -> String {
+    format!("{} bytes", grouped(count))
+}
+
+#[cfg(tracker_exports)]
+enum Calls<'a> {
+    Library(&'a mut library::tracker::Tracker, u64),
+    Original(&'a original::Tracker, &'a mut File, u64),
+}
+
+/// The largest region, which a row of reservations fills from its start on.
+#[cfg(tracker_exports)]
+const ROOM: u32 = 268_435_456;
+
+#[cfg(tracker_exports)]
+fn fresh() -> original::State {
+    original::State { slots: Default::default(), queues: Default::default(), next: 1 }
+}
+
+/// Sixteen deltas wait on each of the shards 0 to 7, and the shards 8 to 15 have an open slot.
+#[cfg(tracker_exports)]
+fn busy() -> original::State {
+    let mut state = fresh();
+    for shard in 0..8 {
+        state.queues[shard] = (0..16).map(|i| (state.next + i, 1)).collect();
+        state.next += 16;
+    }
+    for shard in 8..16 {
+        let offset = u64::from(ROOM) - 16 * (shard as u64 + 1);
+        state.slots[shard] = original::Slot { number: state.next, ordinal: 7, offset };
+        state.next += 1;
+    }
+    state
+}

@@ -1,0 +1,255 @@
+//! The table of a run, for the screen and as docs/BENCH.md.
+use crate::cases::{Sizes, System, ENTRIES, SLOW};
+
+/// The three sides, as the chart and the table call them.
+pub const SIDES: [&str; 3] = ["library", "original, one byte a step", "original, sixteen bytes a step"];
+
+/// Rows with one unit.
+#[derive(Clone, Copy, PartialEq, Eq)]
+pub enum Panel {
+    Scan,
+    Append,
+    Tracker,
+    Hostile,
+}
+
+impl Panel {
+    pub fn unit(self) -> &'static str {
+        match self {
+            Panel::Scan => "MB/s",
+            Panel::Append => "ns each",
+            Panel::Tracker => "ns",
+            Panel::Hostile => "s",
+        }
+    }
+
+    pub fn more_is_faster(self) -> bool {
+        self == Panel::Scan
+    }
+}
+
+/// One case: the figures of the library, of the original with one byte a step and of the original with sixteen.
+pub struct Row {
+    pub panel: Panel,
+    pub title: String,
+    /// The title without what the chart's heading says.
+    pub label: String,
+    pub figures: [f64; 3],
+}
+
+impl Row {
+    /// How many times as fast as the original the library is.
+    fn ratios(&self) -> [f64; 2] {
+        let [library, one, sixteen] = self.figures;
+        [one, sixteen].map(|original| if self.panel.more_is_faster() { library / original } else { original / library })
+    }
+
+    fn cells(&self) -> [String; 6] {
+        let [library, one, sixteen] = self.figures.map(figure);
+        let [to_one, to_sixteen] = self.ratios().map(ratio);
+        [self.panel.unit().to_string(), library, one, sixteen, to_one, to_sixteen]
+    }
+}
+
+/// All of a run.
+pub struct Run {
+    pub rows: Vec<Row>,
+    pub system: System,
+    pub sizes: Sizes,
+    pub processors: String,
+    pub load_before: String,
+    pub load_after: String,
+    pub day: String,
+    pub command: String,
+}
+
+/// "268,435,456".
+pub fn grouped(number: u64) -> String {
+    let digits = number.to_string();
+    let mut text = String::new();
+    for (i, digit) in digits.chars().enumerate() {
+        if i > 0 && (digits.len() - i) % 3 == 0 {
+            text.push(',');
+        }
+        text.push(digit);
+    }
+    text
+}
+
+/// "1.08 x".
+fn ratio(value: f64) -> String {
+    match value {
+        v if v >= 99.95 => format!("{} x", grouped(v.round() as u64)),
+        v if v >= 9.995 => format!("{v:.1} x"),
+        v if v >= 0.0995 => format!("{v:.2} x"),
+        v => format!("{v:.4} x"),
+    }
+}
+
+/// Three digits or more that count.
+pub fn figure(value: f64) -> String {
+    match value {
+        v if v >= 99.95 => grouped(v.round() as u64),
+        v if v >= 9.995 => format!("{v:.1}"),
+        v if v >= 0.9995 => format!("{v:.2}"),
+        v if v >= 0.01 => format!("{v:.3}"),
+        v => format!("{v:.5}"),
+    }
+}
+
+const HEADS: [&str; 7] =
+    ["case", "unit", "library", "original 1", "original 16", "times original 1", "times original 16"];
+
+impl Run {
+    pub fn has_tracker(&self) -> bool {
+        self.rows.iter().any(|row| row.panel == Panel::Tracker)
+    }
+
+    /// What the numbers mean: sentences for the screen and for the document.
+    fn notes(&self) -> Vec<String> {
+        let sizes = &self.sizes;
+        let mut notes = vec![
+            "`original 1` and `original 16` are the original's own text with a checksum of one byte a step (one table) and \
+             of sixteen bytes a step (sixteen tables). The checksum crate that it names could not be had; both forms are \
+             stand-ins, and the crate itself may be faster than either."
+                .to_string(),
+            "The last two columns tell how many times as fast as the original the library is: over 1, it is faster; below 1, it \
+             is slower. MB/s are millions of bytes a second."
+                .to_string(),
+            format!(
+                "Best of {} rounds, the three sides in turns in one process. A side that takes over {SLOW} s for a round has \
+                 only one. Every answer was compared: all sides gave the same ones, and appends wrote the same bytes.",
+                sizes.rounds
+            ),
+            "The original is compiled as for release: optimised (opt-level 3), without overflow checks and debug assertions; \
+             its checksum is a crate of its own, as the one that it names is, with a switch for the form. The library is \
+             what tools/native makes of it, one module with -O3, called through its C interface. No link-time optimisation \
+             on either side."
+                .to_string(),
+        ];
+        notes.push(format!(
+            "Scans are of a region of {} bytes. The entries: {}. Neighbours have different keys and values. `every mark \
+             wrong` has random bytes and no right mark; `zeros` are zeros that were written.",
+            grouped(sizes.region as u64),
+            ENTRIES.iter().map(|entry| format!("{} = {}", grouped(entry.length), entry.words)).collect::<Vec<_>>().join("; ")
+        ));
+        notes.push(format!(
+            "The library is lent the region in memory. The original reads a file in memory through a buffer of 131,072 \
+             bytes, so its scans have the system's copying in them, which alone runs at {} MB/s.",
+            figure(self.system.reading)
+        ));
+        let writing: Vec<String> = self
+            .system
+            .writing
+            .iter()
+            .map(|(length, ns)| format!("{} ns ({})", figure(*ns), grouped(*length)))
+            .collect();
+        notes.push(format!(
+            "Appends are {} in a row, or as many as fill {} bytes, over pages that were written before. In the original's \
+             figure: a place in the file reserved in its tracker, a buffer filled, the checksum, one system call that \
+             writes to the file in memory, the reservation dropped. The library writes into the lent region and does \
+             neither the reservation nor the system call. The writes alone take {}.",
+            grouped(sizes.appends),
+            grouped(sizes.append_bytes),
+            writing.join(", ")
+        ));
+        notes.push(if self.has_tracker() {
+            format!(
+                "Tracker calls are {} in a row, a pair as one. Sixteen deltas wait on each of the shards 0 to 7 and the \
+                 shards 8 to 15 have an open slot, but for record and drain, which start from a fresh tracker. The \
+                 original's has locks and atomics, since it serves threads; the library's looks its whole state through \
+                 before each call (refusal 28).",
+                grouped(sizes.pairs)
+            )
+        } else {
+            "The tracker's rows (reserve and complete, record and drain, checkpoint) are left out: the library doesn't export \
+             its calls yet."
+                .to_string()
+        });
+        notes.push(
+            "In the hostile region every line has the right mark and asks for a key and a value of 65,535 bytes, and no \
+             checksum agrees, so that every line with as many bytes behind it has 131,078 bytes summed."
+                .to_string(),
+        );
+        notes.push(
+            "Wrong marks, zeros and the tracker take no checksum: there the two columns of the original differ by chance."
+                .to_string(),
+        );
+        notes
+    }
+
+    /// The plain table.
+    pub fn text(&self) -> String {
+        let mut lines = vec![HEADS.map(str::to_string).to_vec()];
+        lines.extend(self.rows.iter().map(|row| {
+            let mut line = vec![row.title.clone()];
+            line.extend(row.cells());
+            line
+        }));
+        let widths: Vec<usize> =
+            (0..HEADS.len()).map(|i| lines.iter().map(|line| line[i].len()).max().unwrap_or(0)).collect();
+        let mut text = format!(
+            "{}; load averages {} at the start, {} at the end\n\n",
+            self.processors, self.load_before, self.load_after
+        );
+        for line in lines {
+            let mut written = String::new();
+            for (i, cell) in line.iter().enumerate() {
+                let width = widths[i];
+                written += &if i < 2 { format!("{cell:<width$}  ") } else { format!("{cell:>width$}  ") };
+            }
+            text += written.trim_end();
+            text.push('\n');
+        }
+        text.push('\n');
+        for note in self.notes() {
+            text += &wrapped(&note.replace('`', ""), 100, "- ", "  ");
+        }
+        text
+    }
+
+    /// docs/BENCH.md.
+    pub fn document(&self) -> String {
+        let mut text = format!(
+            "# Measured: the library and the original\n\n\
+             `{}` measured this on {}, on a machine with {}; load averages {} at the start, {} at the end. \
+             `bench/run --write` measures again and writes this page and its picture.\n\n\
+             ![The table below as bars](bench.svg)\n\n",
+            self.command, self.day, self.processors, self.load_before, self.load_after
+        );
+        text = wrapped_paragraphs(&text);
+        text += &format!("| {} |\n|---|---|---:|---:|---:|---:|---:|\n", HEADS.join(" | "));
+        for row in &self.rows {
+            text += &format!("| {} | {} |\n", row.title, row.cells().join(" | "));
+        }
+        text += "\n## What the numbers mean\n\n";
+        for note in self.notes() {
+            text += &wrapped(&note, 150, "- ", "  ");
+        }
+        text
+    }
+}
+
+/// Words in lines of at most `width` letters.
+fn wrapped(words: &str, width: usize, first: &str, others: &str) -> String {
+    let (mut text, mut line) = (String::new(), first.to_string());
+    let mut empty = true;
+    for word in words.split_whitespace() {
+        if !empty && line.chars().count() + 1 + word.chars().count() > width {
+            text += &line;
+            text.push('\n');
+            line = others.to_string();
+            empty = true;
+        }
+        if !empty {
+            line.push(' ');
+        }
+        line += word;
+        empty = false;
+    }
+    text + &line + "\n"
+}
+
+fn wrapped_paragraphs(text: &str) -> String {
+    text.trim_end().split("\n\n").map(|paragraph| wrapped(paragraph, 150, "", "") + "\n").collect()
+}
