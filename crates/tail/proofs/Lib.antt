@@ -1,3 +1,4 @@
 pub mod Bounds
 pub mod Only
+pub mod Turns
 pub mod Zeros
