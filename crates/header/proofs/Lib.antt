@@ -1,2 +1,3 @@
-pub mod Signatures
+pub mod Accepted
 pub mod Only
+pub mod Signatures

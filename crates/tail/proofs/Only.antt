@@ -1,7 +1,7 @@
 -- No second answer fits the contracts of the used bound and of the durable end.
 -- Assumes nothing.
 use Prim.Native.Nat.{ℕ}
-use mathlib.Core.Path.{_≡_, refl, sym, ap, _∙_}
+use mathlib.Core.Path.{_≡_, sym, ap, _∙_}
 use native.Mathlib.Omega.{arith}
 use Rattle.answers.specs.Numbers.{numberOf}
 use Rattle.answers.specs.OneAnswer.{OneAnswer}

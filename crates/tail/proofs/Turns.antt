@@ -5,7 +5,6 @@ use Prim.Native.Nat.{ℕ, _+_, _≤_}
 use mathlib.Core.Path.{_≡_, sym, ap, _∙_}
 use mathlib.Core.List.{List}
 use lib.ListN.{length}
-use borrow.Author.Tests.{le-ltb}
 use Rattle.answers.specs.Answers.{Said}
 use Rattle.answers.specs.Limits.{largestRegion}
 use Rattle.fields.specs.Numbers.{aligned}
@@ -16,25 +15,19 @@ use Rattle.scan.specs.declared.Walked.{Walked}
 use Rattle.scan.specs.declared.Walked.the-variants.{Found}
 use Rattle.scan.proofs.Walks.{Stands, walk-found, walkOf-accepted}
 use Rattle.scan.proofs.Listings.{list-step}
-use Rattle.tail.specs.Tail.{durable, durableOf}
+use Rattle.tail.specs.Tail.{durable}
 
-module _ (mark : ℕ → ℕ) (s : List ℕ) (bound : ℕ) (small : length s ≤ largestRegion) (within : bound ≤ length s) where
-  -- nothing is refused before the walk, so what the listing from 0 gives is the answer
-  pub durable-from-0 : durable 0 (list mark s bound 0) ≡ durableOf mark s bound
-  unfolding durableOf
-  durable-from-0 = simp (le-ltb _ _ small, le-ltb _ _ within)
+module _ (mark : ℕ → ℕ) (s : List ℕ) (bound : ℕ) (small : length s ≤ largestRegion) (within : bound ≤ length s) (from : ℕ) (walked : Walked) (answer : said walked ≡ walkOf mark s bound from) where
+  -- the call in the definition's words
+  asked : walk mark s bound from ≡ said walked
+  asked = sym (walkOf-accepted mark s bound from small within) ∙ sym answer
 
-  module _ (from : ℕ) (walked : Walked) (answer : said walked ≡ walkOf mark s bound from) where
-    -- the call in the definition's words
-    asked : walk mark s bound from ≡ said walked
-    asked = sym (walkOf-accepted mark s bound from small within) ∙ sym answer
+  -- an entry that is found stands at or past the offset, on a line before the bound
+  pub turn-found : {e : Entry} → walked ≡ Found e → Stands mark s (aligned from) (bound + 15) e
+  turn-found q = walk-found mark s bound from (asked ∙ ap said q)
 
-    -- an entry that is found stands at or past the offset, on a line before the bound
-    pub turn-found : {e : Entry} → walked ≡ Found e → Stands mark s (aligned from) (bound + 15) e
-    turn-found q = walk-found mark s bound from (asked ∙ ap said q)
-
-    -- what the entries from here on give, they give by this answer and by those behind it
-    pub turn-rest : (x : Walked) → walked ≡ x → durable from (grow (said x) (λ (e : Entry). list mark s bound (e .end))) ≡ durable from (list mark s bound from)
-    turn-rest x q =
-        ap (λ (y : Said Step). durable from (grow y (λ (e : Entry). list mark s bound (e .end)))) (ap said (sym q) ∙ sym asked)
-        ∙ ap (durable from) (sym (list-step mark s bound from))
+  -- what the entries from here on give, they give by this answer and by those behind it
+  pub turn-rest : (x : Walked) → walked ≡ x → durable from (grow (said x) (λ (e : Entry). list mark s bound (e .end))) ≡ durable from (list mark s bound from)
+  turn-rest x q =
+      ap (λ (y : Said Step). durable from (grow y (λ (e : Entry). list mark s bound (e .end)))) (ap said (sym q) ∙ sym asked)
+      ∙ ap (durable from) (sym (list-step mark s bound from))

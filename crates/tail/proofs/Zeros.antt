@@ -2,15 +2,16 @@
 -- Assumes nothing.
 use Prim.Native.Nat.{ℕ, zero, suc, _%_, _<_, _≤_}
 use mathlib.Core.Path.{_≡_, refl, ap, _∙_}
-use mathlib.Core.List.{List}
+use mathlib.Core.List.{List, [], _∷_}
 use mathlib.Core.Bool.{Bool, true, false}
 use mathlib.Core.Logic.{⊎-elim, _⊎_, inl, inr}
 use native.Mathlib.Omega.{arith}
 use borrow.Author.Tests.{ltb-true, ltb-false, eqb-true, eqb-false, le-ltb}
 use lib.Dec.{ltb, eqb}
 use lib.ListN.{length, getD, List·getD-eq-default}
-use Rattle.answers.specs.Answers.{accepted, pickNumber}
+use Rattle.answers.specs.Answers.{accepted, firstOf, pickNumber}
 use Rattle.answers.specs.Limits.{largestRegion}
+use Rattle.answers.proofs.Orders.{accepted-unrefused}
 use Rattle.fields.proofs.Lines.{aligned-le, aligned-least}
 use Rattle.scan.specs.Listing.{list}
 use Rattle.tail.specs.Tail.{nonzeroTo, usedBound, usedOf, durable, durableOf}
@@ -52,6 +53,14 @@ module _ (s : List ℕ) where
   pub used-length : usedBound s ≤ length s
   unfolding usedBound
   used-length = omega arith
+
+  -- so a bound that was answered can be walked to
+  pub used-within : {bound : ℕ} → usedOf s ≡ accepted bound → bound ≤ length s
+  unfolding usedOf
+  used-within {bound} e =
+      let q : accepted (usedBound s) ≡ accepted bound = accepted-unrefused (firstOf ((ltb largestRegion (length s), 3) ∷ [])) (accepted (usedBound s)) e .1 in
+      let b : usedBound s ≡ bound = cc in
+      omega (arith, used-length)
 
   pub used-least : (line : ℕ) → line % 16 ≡ 0 → ((i : ℕ) → line ≤ i → getD s i 0 ≡ 0) → usedBound s ≤ line
   unfolding usedBound

@@ -2,7 +2,7 @@
 -- the answer; each entry that the walk finds ends past the offset that the walk began at, so less is left before the bound.
 -- Assumes nothing.
 use Prim.Native.Nat.{_+_, _-_, _≤_}
-use mathlib.Core.Path.{_≡_, ap, _∙_}
+use mathlib.Core.Path.{_≡_, sym, ap, _∙_}
 use native.Mathlib.Omega.{arith}
 use borrow.Author.Needs.{needs}
 use lib.ListN.{length}
@@ -16,7 +16,8 @@ use Rattle.scan.specs.Listing.{grow, list}
 use Rattle.scan.specs.declared.Walked.{Walked}
 use Rattle.scan.proofs.Walks.{Stands}
 use Rattle.tail.specs.Tail.{durable, durableOf}
-use Rattle.tail.proofs.Turns.{durable-from-0, turn-found, turn-rest}
+use Rattle.tail.proofs.Turns.{turn-found, turn-rest}
+use Rattle.tail.proofs.Zeros.{durable-accepted}
 use Rattle.lister.proofs.list_entries.Statement.{statement}
 use Rattle.lister.proofs.list_entries.Tie as tie
 
@@ -39,7 +40,7 @@ found c =
     turn-found version1 (z .args .region .now) (z .args .bound) (z .pre .0) (z .pre .1) (w .before .loop .from) (w .walk .result) (w .walk .ensures) (c .walked .given .1)
 
 loop-holds : tie.Need-loop-holds Inv-loop μ-loop
-loop-holds c = (search needs, durable-from-0 version1 (c .before .args .region .now) (c .before .args .bound) (c .before .pre .0) (c .before .pre .1))
+loop-holds c = (search needs, sym (durable-accepted (c .before .args .region .now) (c .before .pre .0) version1 (c .before .args .bound) (c .before .pre .1)))
 
 loop-less : tie.Need-loop-less Inv-loop μ-loop
 loop-less c =

@@ -1,7 +1,7 @@
 -- `tail::seeded_durable_end` meets its contract: the loop keeps that what is left to list decides the answer.
 -- Assumes nothing.
 use Prim.Native.Nat.{_+_, _-_, _≤_}
-use mathlib.Core.Path.{_≡_, ap, _∙_}
+use mathlib.Core.Path.{_≡_, sym, ap, _∙_}
 use native.Mathlib.Omega.{arith}
 use borrow.Author.Needs.{needs}
 use borrow.Author.Tests.{le-ltb, lt-ltb}
@@ -16,7 +16,8 @@ use Rattle.scan.specs.Listing.{grow, list}
 use Rattle.scan.specs.declared.Walked.{Walked}
 use Rattle.scan.proofs.Walks.{Stands}
 use Rattle.tail.specs.Tail.{durable, durableOf}
-use Rattle.tail.proofs.Turns.{durable-from-0, turn-found, turn-rest}
+use Rattle.tail.proofs.Turns.{turn-found, turn-rest}
+use Rattle.tail.proofs.Zeros.{durable-accepted}
 use Rattle.tail.proofs.seeded_durable_end.Statement.{statement}
 use Rattle.tail.proofs.seeded_durable_end.Tie as tie
 
@@ -47,7 +48,7 @@ unfolding durableOf
 returns-2 c = simp (le-ltb _ _ (c .before .if1 .left), lt-ltb _ _ (c .if2 .taken))
 
 loop-holds : tie.Need-loop-holds Inv-loop μ-loop
-loop-holds c = (search needs, durable-from-0 _ _ _ (omega arith) (omega arith))
+loop-holds c = (search needs, sym (durable-accepted _ (omega arith) _ _ (omega arith)))
 
 loop-less : tie.Need-loop-less Inv-loop μ-loop
 loop-less c =
