@@ -28,7 +28,7 @@ fn put_head(region: &mut [u8], at: usize, word: u64, kind: u64, klen: usize, vle
 {
     fields::put32(region, at, word);
     fields::put16(region, at + 4, klen as u64);
-    if kind == 2 {
+    if kind == entry::TOMBSTONE {
         return at + 6;
     }
     fields::put16(region, at + 6, vlen as u64);
@@ -162,7 +162,16 @@ pub fn seeded_append_data(
 ) -> Appended
     ensures { λ r. ⌜ Appends (markFrom seed) (now (region .entry)) used (dataKind kind) (item kind ns (now (key .entry)) (now (value .entry))) r (now (region .exit)) ⌝ }
 {
-    append(region, seed, used, kind < 2, kind, ns, key, value)
+    append(
+        region,
+        seed,
+        used,
+        kind < entry::TOMBSTONE,
+        kind,
+        ns,
+        key,
+        value,
+    )
 }
 
 pub fn seeded_append_tombstone(
@@ -174,7 +183,16 @@ pub fn seeded_append_tombstone(
 ) -> Appended
     ensures { λ r. ⌜ Appends (markFrom seed) (now (region .entry)) used true (item 2 ns (now (key .entry)) []) r (now (region .exit)) ⌝ }
 {
-    append(region, seed, used, true, 2, ns, key, &key[0..0])
+    append(
+        region,
+        seed,
+        used,
+        true,
+        entry::TOMBSTONE,
+        ns,
+        key,
+        &key[0..0],
+    )
 }
 
 // A data entry, type 0 or 1. Refusals 3, 5, 9, 17, 11, 12, 13.

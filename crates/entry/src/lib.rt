@@ -11,8 +11,17 @@ ghost use Rattle.entry.specs.Layout.{headLength, placed, sumPlace, entry
 // Version 1's seed: the mark at offset 0.
 pub const SEED: u32 = 0x5A17C0;
 
-// Where an entry stands: its line, its type (0 insert, 1 update, 2 tombstone), its namespace, the
-// lengths and places of key and value, and one past its checksum, not rounded up.
+// The types that an entry word can hold. No append writes the last, and the walk stops at it.
+pub const INSERT: u64 = 0;
+
+pub const UPDATE: u64 = 1;
+
+pub const TOMBSTONE: u64 = 2;
+
+pub const UNKNOWN: u64 = 3;
+
+// Where an entry stands: its line, its type, its namespace, the lengths and places of key and
+// value, and one past its checksum, not rounded up.
 pub struct Entry {
     pub offset: usize,
     pub kind: u64,
@@ -61,7 +70,7 @@ pub fn word_kind(word: u64) -> u64
 pub fn head_length(kind: u64) -> usize
     ensures { λ r. ⌜ (r ≡ headLength kind) × (6 ≤ r) × (r ≤ 8) ⌝ }
 {
-    if kind == 2 {
+    if kind == TOMBSTONE {
         return 6;
     }
     8
@@ -95,7 +104,7 @@ pub fn entry_at(s: &[u8], p: usize) -> Entry
     let kind = word_kind(word);
     let ns = word_namespace(word);
     let klen = fields::read16(s, p + 4) as usize;
-    if kind == 2 {
+    if kind == TOMBSTONE {
         return placed(p, kind, ns, klen, 0);
     }
     let vlen = fields::read16(s, p + 6) as usize;

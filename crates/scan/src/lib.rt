@@ -43,7 +43,7 @@ pub fn seeded_walk(region: &[u8], seed: u32, bound: usize, offset: usize) -> Wal
             if entry::word_mark(word) != entry::mark_at(seed, p) {
                 break 'trial;
             }
-            if entry::word_kind(word) == 3 {
+            if entry::word_kind(word) == entry::UNKNOWN {
                 break 'lines Walked::UnknownAt(p);
             }
             let e = entry::entry_at(region, p);

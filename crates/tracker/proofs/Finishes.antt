@@ -9,7 +9,7 @@ use lib.Dec.{ltb}
 use lib.IntN.{ℤ, pos, natAbs}
 use borrow.Author.Tests.{ltb-false, eq-eqb, ne-eqb, not-false}
 use Rattle.answers.specs.Numbers.{numberOfVerdict}
-use Rattle.answers.specs.Answers.{accepted}
+use Rattle.answers.specs.Answers.{accepted, firstOf}
 use Rattle.answers.specs.declared.Refusal.{Refusal}
 use Rattle.answers.specs.declared.Verdict.{Verdict}
 use Rattle.answers.specs.declared.Verdict.the-variants.{Accepted, Refused as VRefused}
@@ -27,7 +27,7 @@ pub record FinishFree (isSound : Bool) (shard : ℕ) : Type 0 where
   pub soundness : isSound ≡ true
   pub on-shard : shard < 16
 
-pub finish-free : (isSound : Bool) (shard : ℕ) → finishTests isSound shard ≡ 0 → FinishFree isSound shard
+pub finish-free : (isSound : Bool) (shard : ℕ) → firstOf (finishTests isSound shard) ≡ 0 → FinishFree isSound shard
 unfolding finishTests
 finish-free isSound shard e =
     let t28 = first-passed (not isSound) 27 _ e in
@@ -43,12 +43,12 @@ complete-zero m shard number = by (matches (slotOf m shard) number)
     by true = refl
     by false = refl
 
-module _ (t : Tracker) (shard number : ℕ) (delta : ℤ) (s : Bool) (es : s ≡ sound (view t)) (v : Verdict) (ev : numberOfVerdict v ≡ finishTests s shard) where
+module _ (t : Tracker) (shard number : ℕ) (delta : ℤ) (s : Bool) (es : s ≡ sound (view t)) (v : Verdict) (ev : numberOfVerdict v ≡ firstOf (finishTests s shard)) where
   abbrev new : State
   new = completed (view t) shard number delta
 
   number-is : numberOfVerdict v ≡ finishRefusal (view t) shard
-  number-is = ev ∙ ap (λ (b : Bool). finishTests b shard) es
+  number-is = ev ∙ ap (λ (b : Bool). firstOf (finishTests b shard)) es
 
   pub finish-refused : (r : Refusal) → v ≡ VRefused r → CompleteMet t shard number delta (record { tracker = t; answer = Refused r })
   finish-refused r e = record {

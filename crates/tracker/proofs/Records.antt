@@ -8,6 +8,7 @@ use lib.ListN.{length, getD}
 use lib.Dec.{ltb, leb, eqb}
 use lib.IntN.{ℤ}
 use borrow.Author.Tests.{ltb-false, leb-false, eqb-false, not-false}
+use Rattle.answers.specs.Answers.{firstOf}
 use Rattle.answers.specs.Numbers.{numberOfVerdict}
 use Rattle.answers.specs.declared.Refusal.{Refusal}
 use Rattle.answers.specs.declared.Verdict.{Verdict}
@@ -15,7 +16,7 @@ use Rattle.answers.specs.declared.Verdict.the-variants.{Accepted, Refused as VR
 use Rattle.answers.proofs.Orders.{first-passed}
 use Rattle.tracker.specs.declared.Tracker.{Tracker}
 use Rattle.tracker.specs.declared.RecordAnswer.the-variants.{Recorded, Refused}
-use Rattle.tracker.specs.State.{State, view, idle, places, withNext, joined}
+use Rattle.tracker.specs.State.{State, view, idle, places, withNext, joined, queue}
 use Rattle.tracker.specs.Sound.{sound}
 use Rattle.tracker.specs.Recording.{recordTests, recordRefusal, recorded, RecordMet}
 use Rattle.tracker.proofs.Views.{waiting-is}
@@ -28,7 +29,7 @@ pub record RecordFree (isSound : Bool) (shard next waiting number : ℕ) : Type 
   pub numbers-left : next ≡ 2 ^ 64 - 1 → ⊥
   pub room : waiting + places number < 32
 
-pub record-free : (isSound : Bool) (shard next waiting number : ℕ) → recordTests isSound shard next waiting number ≡ 0 → RecordFree isSound shard next waiting number
+pub record-free : (isSound : Bool) (shard next waiting number : ℕ) → firstOf (recordTests isSound shard next waiting number) ≡ 0 → RecordFree isSound shard next waiting number
 unfolding recordTests
 record-free isSound shard next waiting number e =
     let t28 = first-passed (not isSound) 27 _ e in
@@ -43,13 +44,13 @@ record-free isSound shard next waiting number e =
     }
 
 module _ (t : Tracker) (shard : ℕ) (delta : ℤ) (long : length (t .lengths) ≡ 16) (s : Bool) (es : s ≡ sound (view t)) (w : ℕ) (ew : w ≡ getD (t .lengths) shard 0)
-    (n : ℕ) (en : n ≡ getD (t .slots) shard idle .number) (v : Verdict) (ev : numberOfVerdict v ≡ recordTests s shard (t .next) w n) where
+    (n : ℕ) (en : n ≡ getD (t .slots) shard idle .number) (v : Verdict) (ev : numberOfVerdict v ≡ firstOf (recordTests s shard (t .next) w n)) where
   number-is : numberOfVerdict v ≡ recordRefusal (view t) shard
   unfolding view
   number-is =
-      ev ∙ ap (λ (b : Bool). recordTests b shard (t .next) w n) es
-      ∙ ap (λ (k : ℕ). recordTests (sound (view t)) shard (t .next) k n) (ew ∙ waiting-is t shard long)
-      ∙ ap (recordTests (sound (view t)) shard (t .next) _) en
+      ev ∙ ap (λ (b : Bool). firstOf (recordTests b shard (t .next) w n)) es
+      ∙ ap (λ (k : ℕ). firstOf (recordTests (sound (view t)) shard (t .next) k n)) (ew ∙ waiting-is t shard long)
+      ∙ ap (λ (k : ℕ). firstOf (recordTests (sound (view t)) shard (t .next) (length (queue (view t) shard)) k)) en
 
   pub record-refused : (r : Refusal) → v ≡ VRefused r → RecordMet t shard delta (record { tracker = t; answer = Refused r })
   record-refused r e = verdict-refuses t (recorded (view t) shard delta) (recordRefusal (view t) shard) _ v number-is r e

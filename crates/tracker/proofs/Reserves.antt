@@ -7,6 +7,7 @@ use native.Mathlib.Omega.{arith}
 use lib.ListN.{length, getD, set}
 use lib.Dec.{ltb, eqb}
 use borrow.Author.Tests.{ltb-false, eqb-false, not-false}
+use Rattle.answers.specs.Answers.{firstOf}
 use Rattle.answers.specs.Numbers.{numberOfVerdict}
 use Rattle.answers.specs.declared.Refusal.{Refusal}
 use Rattle.answers.specs.declared.Verdict.{Verdict}
@@ -34,7 +35,7 @@ or-right true b e = let z : _≡_ {A = ℕ} 0 1 = cc in absurd (omega arith)
 or-right false b e = e
 
 pub reserve-free : (isSound : Bool) (shard next waiting used capacity : ℕ) (sealed : Bool) (len : ℕ)
-    → reserveTests isSound shard next waiting used capacity sealed len ≡ 0 → ReserveFree isSound shard next waiting used capacity len
+    → firstOf (reserveTests isSound shard next waiting used capacity sealed len) ≡ 0 → ReserveFree isSound shard next waiting used capacity len
 unfolding reserveTests
 reserve-free isSound shard next waiting used capacity sealed len e =
     let t28 = first-passed (not isSound) 27 _ e in
@@ -54,12 +55,12 @@ reserve-free isSound shard next waiting used capacity sealed len e =
     }
 
 module _ (t : Tracker) (shard ordinal used capacity : ℕ) (sealed : Bool) (len : ℕ) (long : length (t .lengths) ≡ 16) (s : Bool) (es : s ≡ sound (view t))
-    (w : ℕ) (ew : w ≡ getD (t .lengths) shard 0) (v : Verdict) (ev : numberOfVerdict v ≡ reserveTests s shard (t .next) w used capacity sealed len) where
+    (w : ℕ) (ew : w ≡ getD (t .lengths) shard 0) (v : Verdict) (ev : numberOfVerdict v ≡ firstOf (reserveTests s shard (t .next) w used capacity sealed len)) where
   number-is : numberOfVerdict v ≡ reserveRefusal (view t) shard used capacity sealed len
   unfolding view
   number-is =
-      ev ∙ ap (λ (b : Bool). reserveTests b shard (t .next) w used capacity sealed len) es
-      ∙ ap (λ (k : ℕ). reserveTests (sound (view t)) shard (t .next) k used capacity sealed len) (ew ∙ waiting-is t shard long)
+      ev ∙ ap (λ (b : Bool). firstOf (reserveTests b shard (t .next) w used capacity sealed len)) es
+      ∙ ap (λ (k : ℕ). firstOf (reserveTests (sound (view t)) shard (t .next) k used capacity sealed len)) (ew ∙ waiting-is t shard long)
 
   pub reserve-refused : (r : Refusal) → v ≡ VRefused r → ReserveMet t shard ordinal used capacity sealed len (record { tracker = t; answer = Refused r })
   reserve-refused r e = verdict-refuses t (reserved (view t) shard ordinal used) (reserveRefusal (view t) shard used capacity sealed len) _ v number-is r e

@@ -3,7 +3,7 @@
 use Prim.Native.Nat.{ℕ}
 use mathlib.Core.Path.{_≡_}
 use mathlib.Core.Bool.{Bool, true, false, cond, not, _&&_}
-use mathlib.Core.List.{[], _∷_}
+use mathlib.Core.List.{List, [], _∷_}
 use lib.Dec.{ltb, eqb}
 use lib.IntN.{ℤ, natAbs}
 use Rattle.answers.specs.Numbers.{numberOf}
@@ -22,11 +22,11 @@ pub data Finished : Type 0 where
   stale : Finished
 
 -- "complete and abandon 14"
-unfoldable pub finishTests : Bool → ℕ → ℕ
-finishTests isSound shard = firstOf ((not isSound, 28) ∷ (ltb 15 shard, 14) ∷ [])
+unfoldable pub finishTests : Bool → ℕ → List (Bool × ℕ)
+finishTests isSound shard = (not isSound, 28) ∷ (ltb 15 shard, 14) ∷ []
 
 abbrev pub finishRefusal : State → ℕ → ℕ
-finishRefusal m shard = finishTests (sound m) shard
+finishRefusal m shard = firstOf (finishTests (sound m) shard)
 
 -- "if the slot has that number and the number isn't 0"
 unfoldable pub matches : Slot → ℕ → Bool

@@ -2,7 +2,7 @@
 -- Assumes nothing.
 use Prim.Native.Nat.{ℕ, _+_, _-_, _^_}
 use mathlib.Core.Bool.{Bool, not}
-use mathlib.Core.List.{[], _∷_}
+use mathlib.Core.List.{List, [], _∷_}
 use lib.ListN.{length}
 use lib.Dec.{ltb, leb, eqb}
 use lib.IntN.{ℤ}
@@ -17,17 +17,16 @@ use Rattle.tracker.specs.Sound.{sound}
 use Rattle.tracker.specs.Outcome.{Met}
 
 -- "record 14, 16, 15". "Record gets 15 exactly if queue length plus 1 for an open slot is 32 or more."
-unfoldable pub recordTests : Bool → ℕ → ℕ → ℕ → ℕ → ℕ
+unfoldable pub recordTests : Bool → ℕ → ℕ → ℕ → ℕ → List (Bool × ℕ)
 recordTests isSound shard next waiting number =
-    firstOf (
     (not isSound, 28)
     ∷ (ltb 15 shard, 14)
     ∷ (eqb next (2 ^ 64 - 1), 16)
     ∷ (leb 32 (waiting + places number), 15)
-    ∷ [])
+    ∷ []
 
 abbrev pub recordRefusal : State → ℕ → ℕ
-recordRefusal m shard = recordTests (sound m) shard (m .next) (length (queue m shard)) (slotOf m shard .number)
+recordRefusal m shard = firstOf (recordTests (sound m) shard (m .next) (length (queue m shard)) (slotOf m shard .number))
 
 -- an accepted record answers the number that it took
 abbrev pub recordOf : State → ℕ → Said ℕ

@@ -2,7 +2,7 @@
 -- Assumes nothing.
 use Prim.Native.Nat.{ℕ, _+_, _-_, _%_, _^_}
 use mathlib.Core.Bool.{Bool, not, _||_}
-use mathlib.Core.List.{[], _∷_}
+use mathlib.Core.List.{List, [], _∷_}
 use lib.ListN.{length}
 use lib.Dec.{ltb, eqb}
 use Rattle.answers.specs.Limits.{largestRegion}
@@ -24,9 +24,8 @@ pub record Granted : Type 0 where
 
 -- "then reserve 14, 16, 15, 5, 3 (capacity), 13". "Reserve gets 15 exactly if the shard's queue holds 32." 5: "used count or length not a
 -- multiple of 16, or reserved length 0". 13: "sealed, or used count + length over capacity", where the sum is the true one and doesn't wrap
-unfoldable pub reserveTests : Bool → ℕ → ℕ → ℕ → ℕ → ℕ → Bool → ℕ → ℕ
+unfoldable pub reserveTests : Bool → ℕ → ℕ → ℕ → ℕ → ℕ → Bool → ℕ → List (Bool × ℕ)
 reserveTests isSound shard next waiting used capacity sealed len =
-    firstOf (
     (not isSound, 28)
     ∷ (ltb 15 shard, 14)
     ∷ (eqb next (2 ^ 64 - 1), 16)
@@ -34,10 +33,10 @@ reserveTests isSound shard next waiting used capacity sealed len =
     ∷ (not (eqb (used % 16) 0) || not (eqb (len % 16) 0) || eqb len 0, 5)
     ∷ (ltb largestRegion capacity, 3)
     ∷ (sealed || ltb capacity (used + len), 13)
-    ∷ [])
+    ∷ []
 
 abbrev pub reserveRefusal : State → ℕ → ℕ → ℕ → Bool → ℕ → ℕ
-reserveRefusal m shard used capacity sealed len = reserveTests (sound m) shard (m .next) (length (queue m shard)) used capacity sealed len
+reserveRefusal m shard used capacity sealed len = firstOf (reserveTests (sound m) shard (m .next) (length (queue m shard)) used capacity sealed len)
 
 -- "Accepted: place = used count, used count grows by the length, the next number is taken"
 abbrev pub reserveOf : State → ℕ → ℕ → ℕ → Bool → ℕ → Said Granted

@@ -12,6 +12,7 @@ ghost use lib.ListN.{getD, length};
 ghost use lib.Dec.{ltb, leb, eqb};
 ghost use lib.IntN.{ℤ, pos};
 ghost use Rattle.answers.specs.Numbers.{numberOfVerdict};
+ghost use Rattle.answers.specs.Answers.{firstOf};
 ghost use Rattle.tracker.specs.State.{view, freshState, places, idle, joined};
 ghost use Rattle.tracker.specs.Sound.{sound, allBelow};
 ghost use Rattle.tracker.specs.Least.{before, lesserOf, stepOf, leastOf};
@@ -179,7 +180,7 @@ fn reserve_verdict(
     sealed: bool,
     length: u64,
 ) -> Verdict
-    ensures { λ r. ⌜ numberOfVerdict r ≡ reserveTests soundness shard next waiting used capacity sealed length ⌝ }
+    ensures { λ r. ⌜ numberOfVerdict r ≡ firstOf (reserveTests soundness shard next waiting used capacity sealed length) ⌝ }
 {
     if !soundness {
         return Verdict::Refused(Refusal::NotSound);
@@ -269,7 +270,7 @@ pub struct AfterRecord {
 
 // The refusals of record in the table's order. An open slot needs a place in the queue for itself.
 fn record_verdict(soundness: bool, shard: usize, next: u64, waiting: usize, held: u64) -> Verdict
-    ensures { λ r. ⌜ numberOfVerdict r ≡ recordTests soundness shard next waiting held ⌝ }
+    ensures { λ r. ⌜ numberOfVerdict r ≡ firstOf (recordTests soundness shard next waiting held) ⌝ }
 {
     if !soundness {
         return Verdict::Refused(Refusal::NotSound);
@@ -330,7 +331,7 @@ pub struct AfterFinish {
 
 // The refusals of complete and of abandon.
 fn finish_verdict(soundness: bool, shard: usize) -> Verdict
-    ensures { λ r. ⌜ numberOfVerdict r ≡ finishTests soundness shard ⌝ }
+    ensures { λ r. ⌜ numberOfVerdict r ≡ firstOf (finishTests soundness shard) ⌝ }
 {
     if !soundness {
         return Verdict::Refused(Refusal::NotSound);
