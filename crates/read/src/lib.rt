@@ -37,7 +37,7 @@ fn parse(view: &[u8], mark: u64) -> Parsed
     if !entry::agrees(view, 0, sum) {
         return Parsed::Refused(Refusal::WrongChecksum);
     }
-    if 1 < entry::word_kind(word) {
+    if entry::UPDATE < entry::word_kind(word) {
         return Parsed::Refused(Refusal::TypeNotAllowed);
     }
     Parsed::Data(entry::word_namespace(word), klen, vlen)
@@ -69,7 +69,13 @@ pub fn seeded_read_at(region: &[u8], seed: u32, p: usize, hint: usize) -> Readin
     let view = view_of(region, p, hint);
     let parsed = parse(view, mark);
     match parsed {
-        Parsed::Data(ns, klen, vlen) => Reading::Data(entry::placed(p, 0, ns, klen, vlen)),
+        Parsed::Data(ns, klen, vlen) => Reading::Data(entry::placed(
+            p,
+            entry::INSERT,
+            ns,
+            klen,
+            vlen,
+        )),
         Parsed::Refused(refusal) => Reading::Refused(refusal),
     }
 }
