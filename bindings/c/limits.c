@@ -54,8 +54,7 @@ static bool all_are(const uint8_t *bytes, size_t length, uint8_t byte) {
     return length == 0 || (bytes[0] == byte && memcmp(bytes, bytes + 1, length - 1) == 0);
 }
 
-/* A copy of bytes with its end at the end of an allocation, so that a sanitizer would notice this file reading past it.
- */
+/* A copy of the bytes, for its caller to free. */
 static uint8_t *copied(const uint8_t *bytes, size_t length) {
     uint8_t *copy = malloc(length + 1);
     if (copy == NULL) {
@@ -331,10 +330,11 @@ static uint32_t append(struct append a, bool tombstone) {
         answer = locker_append_tombstone(lent, a.length, a.used, a.ns, key, a.klen, next);
     else
         answer = locker_append_data(lent, a.length, a.used, a.kind, a.ns, key, a.klen, value, a.vlen, next);
-    if (answer == LOCKER_ACCEPTED) {
-        unsigned kind = tombstone ? 2 : (unsigned)a.kind;
-        size_t length = (tombstone ? 8 : 10) + a.klen + a.vlen;
-        CHECK(a.used + up(length) <= a.length);
+    unsigned kind = tombstone ? 2 : (unsigned)a.kind;
+    size_t length = (tombstone ? 8 : 10) + a.klen + a.vlen;
+    bool fits = a.used <= a.length && up(length) <= a.length - a.used;
+    if (answer == LOCKER_ACCEPTED) CHECK(fits);
+    if (answer == LOCKER_ACCEPTED && fits) {
         CHECK(next[0] == a.used + up(length));
         memset(wanted + a.used, 0xff, up(length));
         put_entry(wanted, a.used, kind, kind, (unsigned)a.ns, key, a.klen, value, a.vlen);
