@@ -1,16 +1,25 @@
 /*
- * The locker log: header, entries, walk, used bound and durable end of one data file, proved in Rattle and built by
- * `tools/native locker` as target/native/liblocker.a.
+ * The locker log: header, entries, walk, used bound and durable end of one data file, the limits of replay and its
+ * start file, and the tracker of reservations and waiting deltas, proved in Rattle and built by `tools/native locker`
+ * as target/native/liblocker.a.
  *
  * Every function that can refuse answers a number: 0 for accepted, else the number of document 01's table (LOCKER_...
- * below). Any bytes and any numbers may be passed. A refusal changes no lent byte and no out parameter, but for the
- * place that goes with LOCKER_UNKNOWN_TYPE.
+ * below). Any bytes and any numbers may be passed, and a tracker of any cells. "Refuses 3, 5" gives a function's
+ * refusals in the order in which they are tested. A refusal changes no lent byte, no cell of a tracker and no out
+ * parameter, but for the place that goes with LOCKER_UNKNOWN_TYPE.
  *
- * Who owns what: the caller owns every buffer and every out parameter, and the library keeps no pointer after it
- * returns, allocates nothing and has no state. A pointer with a length covers that many bytes and isn't null, even
- * where the length is 0. No two parameters of one call may overlap where one of them is written to.
+ * Who owns what: the caller owns every buffer, every tracker and every out parameter, and the library keeps no pointer
+ * after it returns, allocates nothing and has no state. A pointer with a length covers that many bytes (or ordinals,
+ * or slots) and isn't null, even where the length is 0; a pointer without one isn't null and has its type's alignment.
+ * No two parameters of one call may overlap where one of them is written to. Nothing here locks: whoever shares a
+ * tracker or a region between threads sees to it that one call at a time works on it.
+ *
+ * The library calls memcpy and memset and nothing else. A call on a tracker works on copies of it: built for Arm it
+ * takes up to 16 KiB of stack, where any other call takes less than 1 KiB.
  *
  * A region is a data file without its first 4,096 bytes. All places count from the region's first byte.
+ *
+ * The two examples below are compiled and run: bindings/c/examples.c has them line by line.
  *
  * A boot, whole:
  *
@@ -29,10 +38,33 @@
  *     if (locker_durable_end(region, length, bound, &end, &place) != 0)
  *         return refuse_card();
  *     continue_writing_at(end);
+ *
+ * A reservation's life: shard 3 reserves a line of the active file, writes its entry there and completes, which leaves
+ * one entry more to be counted; then what every shard has finished is counted and kept:
+ *
+ *     struct locker_tracker tracker;
+ *     struct locker_reserved reserved;
+ *     struct locker_progress progress;
+ *     uint64_t next, done;
+ *     int64_t sum;
+ *     locker_tracker_fresh(&tracker);
+ *     if (locker_tracker_reserve(&tracker, 3, ordinal, used, length, false, LOCKER_LINE, &reserved) != 0)
+ *         return turn_to_the_next_file();
+ *     used = reserved.used;
+ *     if (locker_append_data(region, length, reserved.place, LOCKER_INSERT, 1, key, 2, value, 1, &next) != 0)
+ *         locker_tracker_abandon(&tracker, 3, reserved.number, &done);
+ *     else
+ *         locker_tracker_complete(&tracker, 3, reserved.number, 1, &done);
+ *     if (locker_tracker_checkpoint(&tracker, ordinal, used, &progress) != 0)
+ *         return refuse_tracker();
+ *     if (locker_tracker_drain(&tracker, progress.limit, &sum) != 0)
+ *         return refuse_tracker();
+ *     keep(progress.ordinal, progress.offset, sum);
  */
 #ifndef LOCKER_LOG_H
 #define LOCKER_LOG_H
 
+#include <stdbool.h>
 #include <stddef.h>
 #include <stdint.h>
 
@@ -70,8 +102,14 @@ enum {
     LOCKER_LARGEST_REGION = 268435456,
     LOCKER_LARGEST_KEY = 4096,
     LOCKER_LARGEST_VALUE = 32768,
-    LOCKER_LAST_NAMESPACE = 63
+    LOCKER_LAST_NAMESPACE = 63,
+    LOCKER_MOST_ORDINALS = 64, /* in the list from which replay's start file is chosen */
+    LOCKER_SHARDS = 16,        /* of a tracker, from 0 to 15 */
+    LOCKER_WAITING = 32        /* deltas that one shard has room for */
 };
+
+/* The limit that a checkpoint tells where no slot is open. Every waiting number of a sound tracker is below it. */
+#define LOCKER_NO_LIMIT UINT64_MAX
 
 enum { LOCKER_INSERT = 0, LOCKER_UPDATE = 1, LOCKER_TOMBSTONE = 2 };
 
@@ -86,6 +124,56 @@ struct locker_entry {
     uint64_t vplace;
     uint64_t kplace;
     uint64_t end;
+};
+
+/* A reservation's number, and the place that it holds: the file's ordinal and the offset. Number 0 is an idle slot,
+ * whose ordinal and offset say nothing. */
+struct locker_slot {
+    uint64_t number;
+    uint64_t ordinal;
+    uint64_t offset;
+};
+
+/* A slot for each shard, and its waiting deltas: shard s waits at the places from 32 * s on of `numbers` and `deltas`,
+ * as many as lengths[s] says, in the order in which they joined. What lies past a queue's length is no state: no answer
+ * depends on it, and a call may leave anything there. `next` is the number that is given next.
+ *
+ * A tracker is sound if each length is at most 32, and at most 31 beside an open slot, `next` is at least 1, and every
+ * open or waiting number is below `next`. locker_tracker_fresh makes a sound one, and every call on a sound one leaves
+ * it sound; on any other, as a damaged copy may be, each call gives 28. The cells are the caller's to look at, to keep
+ * and to set. */
+struct locker_tracker {
+    struct locker_slot slots[LOCKER_SHARDS];
+    uint64_t numbers[LOCKER_SHARDS * LOCKER_WAITING];
+    int8_t deltas[LOCKER_SHARDS * LOCKER_WAITING];
+    uint64_t lengths[LOCKER_SHARDS];
+    uint64_t next;
+};
+
+/* What an accepted reserve tells: the reservation's number, its place, and the used count afterwards. */
+struct locker_reserved {
+    uint64_t number;
+    uint64_t place;
+    uint64_t used;
+};
+
+/* What an accepted checkpoint tells: the cursor (ordinal and offset) up to which everything is finished, the sum of the
+ * deltas below the limit, the limit, and in `pending` 1 where a slot is open or a delta waits, else 0. */
+struct locker_progress {
+    uint64_t ordinal;
+    uint64_t offset;
+    int64_t sum;
+    uint64_t limit;
+    uint64_t pending;
+};
+
+/* What a search along slots tells: whether one is open, the least place (ordinal and offset) and the least open
+ * number. */
+struct locker_least {
+    bool any;
+    uint64_t ordinal;
+    uint64_t offset;
+    uint64_t limit;
 };
 
 /* ---- checksum: CRC-16/IBM-3740 */
@@ -139,8 +227,8 @@ uint32_t locker_durable_end(const uint8_t *region, size_t length, size_t bound, 
 
 /* ---- replay */
 
-/* Whether a recovered data entry of these lengths is accepted for replay under a configured maximum region size. Refuses
- * 3, 11, 12, 13. */
+/* Whether a recovered data entry of these lengths is accepted for replay under a configured maximum region size.
+ * Refuses 3, 11, 12, 13. */
 uint32_t locker_replay_data(size_t klen, size_t vlen, size_t maximum);
 
 /* The same for a tombstone. Refuses 3, 11, 13. */
@@ -151,22 +239,117 @@ uint32_t locker_replay_tombstone(size_t klen, size_t maximum);
  * 18. */
 uint32_t locker_start_file(const uint64_t *ordinals, size_t count, uint64_t cursor, uint64_t *place, uint64_t *found);
 
+/* ---- tracker
+ *
+ * Each call works on the tracker in place, and changes it only where it answers 0. What holds a reservation is its
+ * shard and its number: whoever reserves keeps both, and passes them to complete or to abandon. */
+
+/* Makes the tracker fresh, whatever its cells hold: every slot idle, nothing waiting, and 1 as its next number. Refuses
+ * nothing and answers 0. */
+uint32_t locker_tracker_fresh(struct locker_tracker *t);
+
+/* Whether the tracker is sound. */
+bool locker_tracker_is_sound(const struct locker_tracker *t);
+
+/* Reserves `length` bytes for a shard at the used count of the active file, which `ordinal`, `used`, `capacity` and
+ * `sealed` tell of: the next number is taken, the shard's slot is set to it, the ordinal and the used count, and
+ * *reserved tells number, place and the used count afterwards. A reservation that was open on the shard is given up.
+ * The library keeps no used count: the caller passes reserved->used the next time. Refuses 28, 14, 16, 15 (32 deltas
+ * wait), 5 (used count or length), 3 (capacity), 13. */
+uint32_t locker_tracker_reserve(struct locker_tracker *t, size_t shard, uint64_t ordinal, uint64_t used,
+                                uint64_t capacity, bool sealed, uint64_t length, struct locker_reserved *reserved);
+
+/* Takes the next number and has the delta wait under it on the shard, even a delta of 0; *number tells it. Refuses 28,
+ * 14, 16, 15 (32 deltas wait, or 31 beside an open slot). */
+uint32_t locker_tracker_record(struct locker_tracker *t, size_t shard, int8_t delta, uint64_t *number);
+
+/* Finishes the reservation with that number. If the shard's slot has it and it isn't 0, the slot becomes idle, of
+ * which only its number changes, a delta that isn't 0 waits at the back of the shard's queue under that number, and
+ * *done is 1. Otherwise the number is stale, no cell changes, and *done is 0. Refuses 28, 14. */
+uint32_t locker_tracker_complete(struct locker_tracker *t, size_t shard, uint64_t number, int8_t delta, uint64_t *done);
+
+/* The same without a delta: nothing waits. Refuses 28, 14. */
+uint32_t locker_tracker_abandon(struct locker_tracker *t, size_t shard, uint64_t number, uint64_t *done);
+
+/* The cursor is the least (ordinal, offset) over the open slots, else the active ordinal and the used count that are
+ * passed. The limit is the least open number, else LOCKER_NO_LIMIT. The sum adds each shard's deltas from the front of
+ * its queue and stops at the first number at or above the limit. Refuses 28. */
+uint32_t locker_tracker_checkpoint(const struct locker_tracker *t, uint64_t ordinal, uint64_t used,
+                                   struct locker_progress *progress);
+
+/* Removes from the front of each shard's queue what is below the limit, up to the first number that isn't, and tells
+ * the removed deltas' *sum: with a checkpoint's limit, the checkpoint's sum. Any limit may be passed. Refuses 28. */
+uint32_t locker_tracker_drain(struct locker_tracker *t, uint64_t limit, int64_t *sum);
+
+/* Zeroes every slot and empties every queue. The next number stays, so that earlier ones are stale. Refuses 28. */
+uint32_t locker_tracker_clear(struct locker_tracker *t);
+
+/* Of one slot on its own: if it has that number and the number isn't 0 it becomes idle, of which only its number
+ * changes, and *done is 1; otherwise no cell changes, and *done is 0. Refuses nothing and answers 0. */
+uint32_t locker_slot_abandon(struct locker_slot *slot, uint64_t number, uint64_t *done);
+
+/* Cursor and limit, as a checkpoint has them, along a run of any number of slots: least->any is whether one is open.
+ * Where none is, and for an empty run, the ordinal and the used count that are passed and LOCKER_NO_LIMIT. Refuses
+ * nothing and answers 0. */
+uint32_t locker_least_along(const struct locker_slot *slots, size_t count, uint64_t ordinal, uint64_t used,
+                            struct locker_least *least);
+
 #ifdef __cplusplus
 }
 #endif
 
-/* The library reads and writes an entry as eight numbers in this order. */
-#if defined(__STDC_VERSION__) && __STDC_VERSION__ >= 201112L
-_Static_assert(sizeof(size_t) == 8, "the library is built for machines of 64 bits");
-_Static_assert(sizeof(struct locker_entry) == 64, "eight numbers of 64 bits");
-_Static_assert(offsetof(struct locker_entry, offset) == 0, "offset first");
-_Static_assert(offsetof(struct locker_entry, kind) == 8, "then the type");
-_Static_assert(offsetof(struct locker_entry, ns) == 16, "then the namespace");
-_Static_assert(offsetof(struct locker_entry, klen) == 24, "then the key's length");
-_Static_assert(offsetof(struct locker_entry, vlen) == 32, "then the value's length");
-_Static_assert(offsetof(struct locker_entry, vplace) == 40, "then the value's place");
-_Static_assert(offsetof(struct locker_entry, kplace) == 48, "then the key's place");
-_Static_assert(offsetof(struct locker_entry, end) == 56, "then the end");
+/* The library's structs have these sizes and offsets; a compiler that lays one out in another way is told so. */
+#if defined(__cplusplus) && __cplusplus >= 201103L
+#define LOCKER_HOLDS(claim, words) static_assert(claim, words)
+#elif defined(__STDC_VERSION__) && __STDC_VERSION__ >= 201112L
+#define LOCKER_HOLDS(claim, words) _Static_assert(claim, words)
+#else
+#define LOCKER_HOLDS(claim, words) extern char locker_holds[(claim) ? 1 : -1]
 #endif
+
+LOCKER_HOLDS(sizeof(size_t) == 8, "the library is built for machines of 64 bits");
+LOCKER_HOLDS(sizeof(bool) == 1, "a bool is a byte");
+
+LOCKER_HOLDS(sizeof(struct locker_entry) == 64, "eight numbers of 64 bits");
+LOCKER_HOLDS(offsetof(struct locker_entry, offset) == 0, "offset first");
+LOCKER_HOLDS(offsetof(struct locker_entry, kind) == 8, "then the type");
+LOCKER_HOLDS(offsetof(struct locker_entry, ns) == 16, "then the namespace");
+LOCKER_HOLDS(offsetof(struct locker_entry, klen) == 24, "then the key's length");
+LOCKER_HOLDS(offsetof(struct locker_entry, vlen) == 32, "then the value's length");
+LOCKER_HOLDS(offsetof(struct locker_entry, vplace) == 40, "then the value's place");
+LOCKER_HOLDS(offsetof(struct locker_entry, kplace) == 48, "then the key's place");
+LOCKER_HOLDS(offsetof(struct locker_entry, end) == 56, "then the end");
+
+LOCKER_HOLDS(sizeof(struct locker_slot) == 24, "three numbers of 64 bits");
+LOCKER_HOLDS(offsetof(struct locker_slot, number) == 0, "number first");
+LOCKER_HOLDS(offsetof(struct locker_slot, ordinal) == 8, "then the ordinal");
+LOCKER_HOLDS(offsetof(struct locker_slot, offset) == 16, "then the offset");
+
+LOCKER_HOLDS(sizeof(struct locker_tracker) == 5128, "slots, 512 numbers, 512 deltas, 16 lengths, next");
+LOCKER_HOLDS(offsetof(struct locker_tracker, slots) == 0, "slots first");
+LOCKER_HOLDS(offsetof(struct locker_tracker, numbers) == 384, "then the waiting numbers");
+LOCKER_HOLDS(offsetof(struct locker_tracker, deltas) == 4480, "then their deltas");
+LOCKER_HOLDS(offsetof(struct locker_tracker, lengths) == 4992, "then the queues' lengths");
+LOCKER_HOLDS(offsetof(struct locker_tracker, next) == 5120, "then the next number");
+
+LOCKER_HOLDS(sizeof(struct locker_reserved) == 24, "three numbers of 64 bits");
+LOCKER_HOLDS(offsetof(struct locker_reserved, number) == 0, "number first");
+LOCKER_HOLDS(offsetof(struct locker_reserved, place) == 8, "then the place");
+LOCKER_HOLDS(offsetof(struct locker_reserved, used) == 16, "then the used count");
+
+LOCKER_HOLDS(sizeof(struct locker_progress) == 40, "five numbers of 64 bits");
+LOCKER_HOLDS(offsetof(struct locker_progress, ordinal) == 0, "ordinal first");
+LOCKER_HOLDS(offsetof(struct locker_progress, offset) == 8, "then the offset");
+LOCKER_HOLDS(offsetof(struct locker_progress, sum) == 16, "then the sum");
+LOCKER_HOLDS(offsetof(struct locker_progress, limit) == 24, "then the limit");
+LOCKER_HOLDS(offsetof(struct locker_progress, pending) == 32, "then pending");
+
+LOCKER_HOLDS(sizeof(struct locker_least) == 32, "a byte, seven of filling, three numbers of 64 bits");
+LOCKER_HOLDS(offsetof(struct locker_least, any) == 0, "whether one is open first");
+LOCKER_HOLDS(offsetof(struct locker_least, ordinal) == 8, "then the ordinal");
+LOCKER_HOLDS(offsetof(struct locker_least, offset) == 16, "then the offset");
+LOCKER_HOLDS(offsetof(struct locker_least, limit) == 24, "then the limit");
+
+#undef LOCKER_HOLDS
 
 #endif

@@ -1,5 +1,5 @@
-/* Boots a card image: reads the header, lists what stands, and says where writing goes on. With include/locker_log.h alone
- * as its guide; `bindings/c/test` builds it and boots damaged cards with it. */
+/* Boots a card image: reads the header, lists what stands, and says where writing goes on. With include/locker_log.h
+ * alone as its guide; `tests/bindings` builds it and boots damaged cards with it. */
 #include <inttypes.h>
 #include <stdio.h>
 #include <stdlib.h>

@@ -205,6 +205,7 @@ fn boot(file: &[u8]) -> Said {
 
 impl Library {
     pub fn new() -> Self {
+        assert_eq!(exports::fresh(), crate::draw::fresh_state(), "what the library makes fresh is where traces begin");
         Library { big: vec![0; MAX_REGION + 4096], paper: Paper::plain() }
     }
 

@@ -1,7 +1,7 @@
 //! The locker log in Rust's own manner: a safe interface to the proved library, with nothing but `core`.
 //!
-//! Every operation takes any bytes and any numbers. A refusal is an `Err` with document 01's number behind it
-//! ([`Refusal::number`]) and changes no byte.
+//! Every operation takes any bytes and any numbers, and a [`Tracker`] of any cells. A refusal is an `Err` with document 01's
+//! number behind it ([`Refusal::number`]) and changes no byte and no state.
 //!
 //! ```
 //! use locker_log::{append_data, Kind, Region};
@@ -21,8 +21,13 @@
 
 mod refusal;
 mod sys;
+mod tracker;
 
 pub use refusal::{Refusal, WalkError};
+pub use tracker::{
+    least_along, ActiveFile, Cells, Delta, Finished, Least, Progress, Reserved, Slot, Tracker, NO_LIMIT, SHARDS,
+    WAITING,
+};
 
 use sys::RawEntry;
 
@@ -146,8 +151,7 @@ pub fn check_replay(kind: Kind, klen: usize, vlen: usize, maximum: usize) -> Res
 pub fn start_file(ordinals: &[u64], cursor: u64) -> Result<Option<usize>, Refusal> {
     let (mut place, mut found) = (0, 0);
     // SAFETY: one slice, and two numbers of our own.
-    let number =
-        unsafe { sys::locker_start_file(ordinals.as_ptr(), ordinals.len(), cursor, &mut place, &mut found) };
+    let number = unsafe { sys::locker_start_file(ordinals.as_ptr(), ordinals.len(), cursor, &mut place, &mut found) };
     Refusal::check(number).map(|()| (found == 1).then_some(place as usize))
 }
 
@@ -226,14 +230,7 @@ impl<'a> Region<'a> {
         let (mut start, mut count) = (0, 0);
         // SAFETY: one slice, and two numbers of our own.
         unsafe {
-            sys::locker_part(
-                self.bytes.as_ptr(),
-                self.bytes.len(),
-                at as usize,
-                len as usize,
-                &mut start,
-                &mut count,
-            )
+            sys::locker_part(self.bytes.as_ptr(), self.bytes.len(), at as usize, len as usize, &mut start, &mut count)
         }
         &self.bytes[start as usize..(start + count) as usize]
     }

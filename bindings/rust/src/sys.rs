@@ -1,5 +1,7 @@
 //! The library's own functions, as include/locker_log.h declares them.
 
+use crate::tracker::{Cells, Reserved, Slot};
+
 /// An entry as the library tells it: `struct locker_entry`.
 #[repr(C)]
 #[derive(Clone, Copy, Debug, Default)]
@@ -14,6 +16,26 @@ pub struct RawEntry {
     pub end: u64,
 }
 
+/// A checkpoint as the library tells it: `struct locker_progress`.
+#[repr(C)]
+#[derive(Default)]
+pub struct RawProgress {
+    pub ordinal: u64,
+    pub offset: u64,
+    pub sum: i64,
+    pub limit: u64,
+    pub pending: u64,
+}
+
+/// A search along slots as the library tells it: `struct locker_least`.
+#[repr(C)]
+pub struct RawLeast {
+    pub any: bool,
+    pub ordinal: u64,
+    pub offset: u64,
+    pub limit: u64,
+}
+
 const _: () = {
     use core::mem::{offset_of, size_of};
     assert!(size_of::<usize>() == 8);
@@ -26,6 +48,34 @@ const _: () = {
     assert!(offset_of!(RawEntry, vplace) == 40);
     assert!(offset_of!(RawEntry, kplace) == 48);
     assert!(offset_of!(RawEntry, end) == 56);
+    // struct locker_slot
+    assert!(size_of::<Slot>() == 24);
+    assert!(offset_of!(Slot, number) == 0);
+    assert!(offset_of!(Slot, ordinal) == 8);
+    assert!(offset_of!(Slot, offset) == 16);
+    // struct locker_tracker
+    assert!(size_of::<Cells>() == 5128);
+    assert!(offset_of!(Cells, slots) == 0);
+    assert!(offset_of!(Cells, numbers) == 384);
+    assert!(offset_of!(Cells, deltas) == 4480);
+    assert!(offset_of!(Cells, lengths) == 4992);
+    assert!(offset_of!(Cells, next) == 5120);
+    // struct locker_reserved
+    assert!(size_of::<Reserved>() == 24);
+    assert!(offset_of!(Reserved, number) == 0);
+    assert!(offset_of!(Reserved, place) == 8);
+    assert!(offset_of!(Reserved, used) == 16);
+    assert!(size_of::<RawProgress>() == 40);
+    assert!(offset_of!(RawProgress, ordinal) == 0);
+    assert!(offset_of!(RawProgress, offset) == 8);
+    assert!(offset_of!(RawProgress, sum) == 16);
+    assert!(offset_of!(RawProgress, limit) == 24);
+    assert!(offset_of!(RawProgress, pending) == 32);
+    assert!(size_of::<RawLeast>() == 32);
+    assert!(offset_of!(RawLeast, any) == 0);
+    assert!(offset_of!(RawLeast, ordinal) == 8);
+    assert!(offset_of!(RawLeast, offset) == 16);
+    assert!(offset_of!(RawLeast, limit) == 24);
 };
 
 extern "C" {
@@ -69,11 +119,25 @@ extern "C" {
     pub fn locker_durable_end(region: *const u8, length: usize, bound: usize, end: *mut u64, place: *mut u64) -> u32;
     pub fn locker_replay_data(klen: usize, vlen: usize, maximum: usize) -> u32;
     pub fn locker_replay_tombstone(klen: usize, maximum: usize) -> u32;
-    pub fn locker_start_file(
-        ordinals: *const u64,
-        count: usize,
-        cursor: u64,
-        place: *mut u64,
-        found: *mut u64,
+    pub fn locker_start_file(ordinals: *const u64, count: usize, cursor: u64, place: *mut u64, found: *mut u64) -> u32;
+    pub fn locker_tracker_fresh(t: *mut Cells) -> u32;
+    pub fn locker_tracker_is_sound(t: *const Cells) -> bool;
+    pub fn locker_tracker_reserve(
+        t: *mut Cells,
+        shard: usize,
+        ordinal: u64,
+        used: u64,
+        capacity: u64,
+        sealed: bool,
+        length: u64,
+        reserved: *mut Reserved,
     ) -> u32;
+    pub fn locker_tracker_record(t: *mut Cells, shard: usize, delta: i8, number: *mut u64) -> u32;
+    pub fn locker_tracker_complete(t: *mut Cells, shard: usize, number: u64, delta: i8, done: *mut u64) -> u32;
+    pub fn locker_tracker_abandon(t: *mut Cells, shard: usize, number: u64, done: *mut u64) -> u32;
+    pub fn locker_tracker_checkpoint(t: *const Cells, ordinal: u64, used: u64, progress: *mut RawProgress) -> u32;
+    pub fn locker_tracker_drain(t: *mut Cells, limit: u64, sum: *mut i64) -> u32;
+    pub fn locker_tracker_clear(t: *mut Cells) -> u32;
+    pub fn locker_slot_abandon(slot: *mut Slot, number: u64, done: *mut u64) -> u32;
+    pub fn locker_least_along(slots: *const Slot, count: usize, ordinal: u64, used: u64, least: *mut RawLeast) -> u32;
 }

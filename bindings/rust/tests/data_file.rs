@@ -1,7 +1,8 @@
 //! Every operation of the data file at its limits and refusals, and document 01's own examples.
 
 use locker_log::{
-    append_data, append_tombstone, hash, read_header, update, write_header, Kind, Refusal, Region, WalkError, HEADER_LENGTH,
+    append_data, append_tombstone, hash, read_header, update, write_header, Kind, Refusal, Region, WalkError,
+    HEADER_LENGTH,
 };
 
 const LARGEST: usize = 268_435_456;

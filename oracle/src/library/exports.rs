@@ -25,6 +25,11 @@ pub fn stand_ins() -> Vec<&'static str> {
 }
 
 #[cfg(not(tracker_exports))]
+pub fn fresh() -> State {
+    crate::draw::fresh_state()
+}
+
+#[cfg(not(tracker_exports))]
 pub fn track(paper: &mut Paper, state: &State, step: &Step) -> Said {
     paper.say(&Call::Track { state: Box::new(state.clone()), step: step.clone() })
 }
@@ -80,7 +85,7 @@ pub fn start_file(_: &mut Paper, ordinals: &[u64], cursor: u64) -> Said {
 }
 
 #[cfg(tracker_exports)]
-pub use exported::track;
+pub use exported::{fresh, track};
 
 #[cfg(tracker_exports)]
 mod exported {
@@ -109,33 +114,50 @@ mod exported {
         next: u64,
     }
 
+    #[derive(PartialEq, Eq)]
+    #[repr(C)]
+    struct Reserved {
+        number: u64,
+        place: u64,
+        used: u64,
+    }
+
+    #[derive(PartialEq, Eq)]
+    #[repr(C)]
+    struct Progress {
+        ordinal: u64,
+        offset: u64,
+        sum: i64,
+        limit: u64,
+        pending: u64,
+    }
+
+    const _: () = {
+        assert!(std::mem::size_of::<Raw>() == 5128);
+        assert!(std::mem::size_of::<Reserved>() == 24);
+        assert!(std::mem::size_of::<Progress>() == 40);
+    };
+
     extern "C" {
+        fn locker_tracker_fresh(t: *mut Raw) -> u32;
+        fn locker_tracker_is_sound(t: *const Raw) -> bool;
         fn locker_tracker_reserve(
             t: *mut Raw,
             shard: u64,
             ordinal: u64,
             used: u64,
             capacity: u64,
-            sealed: u64,
+            sealed: bool,
             length: u64,
-            number: *mut u64,
-            place: *mut u64,
+            reserved: *mut Reserved,
         ) -> u32;
         fn locker_tracker_complete(t: *mut Raw, shard: u64, number: u64, delta: i8, done: *mut u64) -> u32;
         fn locker_tracker_abandon(t: *mut Raw, shard: u64, number: u64, done: *mut u64) -> u32;
         fn locker_tracker_record(t: *mut Raw, shard: u64, delta: i8, number: *mut u64) -> u32;
-        fn locker_tracker_checkpoint(
-            t: *const Raw,
-            active: u64,
-            used: u64,
-            ordinal: *mut u64,
-            offset: *mut u64,
-            sum: *mut i64,
-            limit: *mut u64,
-            pending: *mut u64,
-        ) -> u32;
+        fn locker_tracker_checkpoint(t: *const Raw, active: u64, used: u64, progress: *mut Progress) -> u32;
         fn locker_tracker_drain(t: *mut Raw, limit: u64, sum: *mut i64) -> u32;
         fn locker_tracker_clear(t: *mut Raw) -> u32;
+        fn locker_slot_abandon(slot: *mut RawSlot, number: u64, done: *mut u64) -> u32;
     }
 
     /// What lies past a queue's length is no state: it is filled with numbers that would be noticed.
@@ -168,39 +190,101 @@ mod exported {
         }
     }
 
-    /// A call that answers numbers; on a refusal every cell and every out parameter has to stay.
-    pub fn track(_: &mut Paper, state: &State, step: &Step) -> Said {
-        let mut raw = raw_of(state);
-        let t: *mut Raw = &mut *raw;
-        let mut out = [UNTOUCHED; 5];
-        let [a, b, c, d, e] = &mut out;
-        let mut sum = UNTOUCHED as i64;
-        // SAFETY: the library's contract: a tracker of any cells, any numbers, and places to write to.
-        let (number, count) = unsafe {
-            match *step {
-                Step::Reserve { shard, ordinal, used, capacity, sealed, length } => {
-                    (locker_tracker_reserve(t, shard, ordinal, used, capacity, sealed.into(), length, a, b), 2)
-                }
-                Step::Complete { shard, number, delta } => (locker_tracker_complete(t, shard, number, delta, a), 1),
-                Step::Abandon { shard, number } => (locker_tracker_abandon(t, shard, number, a), 1),
-                Step::Record { shard, delta } => (locker_tracker_record(t, shard, delta, a), 1),
-                Step::Checkpoint { ordinal, used } => {
-                    let number = locker_tracker_checkpoint(t, ordinal, used, a, b, &mut sum, d, e);
-                    *c = sum as u64;
-                    (number, 5)
-                }
-                Step::Drain { limit } => {
-                    let number = locker_tracker_drain(t, limit, &mut sum);
-                    *a = sum as u64;
-                    (number, 1)
-                }
-                Step::Clear => (locker_tracker_clear(t), 0),
-            }
+    /// What the library makes fresh, from cells that aren't.
+    pub fn fresh() -> State {
+        let mut raw = raw_of(&State { next: UNTOUCHED, ..crate::draw::fresh_state() });
+        raw.lens = [UNTOUCHED; 16];
+        // SAFETY: the library's contract: a tracker of any cells.
+        let number = unsafe { locker_tracker_fresh(&mut *raw) };
+        assert_eq!(number, 0, "a fresh tracker is refused");
+        state_of(&raw)
+    }
+
+    /// A call that writes one number, as the values of an answer.
+    fn one(call: impl FnOnce(&mut u64) -> u32) -> (u32, Vec<u64>, bool) {
+        let mut out = UNTOUCHED;
+        let number = call(&mut out);
+        (number, vec![out], out == UNTOUCHED)
+    }
+
+    /// The judge holds the original's used count to place + length, and an answer has number and place alone: another used
+    /// count than that goes along, so that the answers differ.
+    fn reserve(used: Option<u64>, call: impl FnOnce(&mut Reserved) -> u32) -> (u32, Vec<u64>, bool) {
+        let mut out = Reserved { number: UNTOUCHED, place: UNTOUCHED, used: UNTOUCHED };
+        let number = call(&mut out);
+        let mut values = vec![out.number, out.place];
+        values.extend((Some(out.used) != used).then_some(out.used));
+        (number, values, out == Reserved { number: UNTOUCHED, place: UNTOUCHED, used: UNTOUCHED })
+    }
+
+    fn checkpoint(call: impl FnOnce(&mut Progress) -> u32) -> (u32, Vec<u64>, bool) {
+        let untouched = || Progress {
+            ordinal: UNTOUCHED,
+            offset: UNTOUCHED,
+            sum: UNTOUCHED as i64,
+            limit: UNTOUCHED,
+            pending: UNTOUCHED,
         };
-        if number == 0 {
-            return Said { values: out[..count].to_vec(), state: Some(Box::new(state_of(&raw))), ..Default::default() };
+        let mut out = untouched();
+        let number = call(&mut out);
+        let left = out == untouched();
+        (number, vec![out.ordinal, out.offset, out.sum as u64, out.limit, out.pending], left)
+    }
+
+    /// The lent form of abandon, one slot cleared in place, is held to the call that was just made.
+    fn slot_agrees(before: &Raw, after: &Raw, shard: u64, number: u64, done: u64) -> bool {
+        let mut slot = before.slots[shard as usize];
+        let mut told = UNTOUCHED;
+        // SAFETY: a slot of any cells, any number, and a number to write to.
+        let answer = unsafe { locker_slot_abandon(&mut slot, number, &mut told) };
+        answer == 0 && told == done && slot == after.slots[shard as usize]
+    }
+
+    /// A call that answers numbers. Every cell has to stay on a refusal, on Stale and in a checkpoint, and on a refusal every
+    /// out parameter too; the library's own word on soundness has to go with its answer.
+    pub fn track(_: &mut Paper, state: &State, step: &Step) -> Said {
+        let before = raw_of(state);
+        let mut raw = before.clone();
+        let t: *mut Raw = &mut *raw;
+        // SAFETY (all of these): the library's contract: a tracker of any cells, any numbers, and places to write to.
+        let (number, values, outs_left) = match *step {
+            Step::Reserve { shard, ordinal, used, capacity, sealed, length } => {
+                reserve(used.checked_add(length), |out| unsafe {
+                    locker_tracker_reserve(t, shard, ordinal, used, capacity, sealed, length, out)
+                })
+            }
+            Step::Complete { shard, number, delta } => {
+                one(|done| unsafe { locker_tracker_complete(t, shard, number, delta, done) })
+            }
+            Step::Abandon { shard, number } => one(|done| unsafe { locker_tracker_abandon(t, shard, number, done) }),
+            Step::Record { shard, delta } => one(|number| unsafe { locker_tracker_record(t, shard, delta, number) }),
+            Step::Checkpoint { ordinal, used } => {
+                checkpoint(|out| unsafe { locker_tracker_checkpoint(t, ordinal, used, out) })
+            }
+            Step::Drain { limit } => {
+                let mut sum = UNTOUCHED as i64;
+                let number = unsafe { locker_tracker_drain(t, limit, &mut sum) };
+                (number, vec![sum as u64], sum == UNTOUCHED as i64)
+            }
+            Step::Clear => (unsafe { locker_tracker_clear(t) }, vec![], true),
+        };
+        let sound = unsafe { locker_tracker_is_sound(&*before) };
+        let stays = raw == before;
+        let kept = match (number, step) {
+            (0, &Step::Abandon { shard, number }) => {
+                (stays || values == [1]) && slot_agrees(&before, &raw, shard, number, values[0])
+            }
+            (0, Step::Complete { .. }) => stays || values == [1],
+            (0, Step::Checkpoint { .. }) => stays,
+            (0, _) => true,
+            _ => stays && outs_left,
+        };
+        if sound == (number == 28) || !kept {
+            return Said { number: WROTE, state: Some(Box::new(state.clone())), ..Default::default() };
         }
-        let left = *raw == *raw_of(state) && out == [UNTOUCHED; 5];
-        Said { number: if left { number } else { WROTE }, state: Some(Box::new(state.clone())), ..Default::default() }
+        if number == 0 {
+            return Said { values, state: Some(Box::new(state_of(&raw))), ..Default::default() };
+        }
+        Said { number, state: Some(Box::new(state.clone())), ..Default::default() }
     }
 }
