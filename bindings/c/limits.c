@@ -1437,7 +1437,6 @@ static void try_slot_abandon(void) {
     }
 }
 
-#ifdef LEAST_ALONG
 /* The cursor and the limit, as a checkpoint tells them, along any run of slots. */
 static bool least_is(const struct locker_slot *slots, size_t count, bool any, uint64_t ordinal, uint64_t offset,
                      uint64_t limit) {
@@ -1485,7 +1484,6 @@ static void try_least_along(void) {
     CHECK(checkpoint(&t, 9, 160, &told) == LOCKER_ACCEPTED);
     CHECK(least_is(t.slots, LOCKER_SHARDS, false, told.ordinal, told.offset, told.limit));
 }
-#endif
 
 int main(void) {
     big = mmap(NULL, largest + 1, PROT_READ | PROT_WRITE, MAP_PRIVATE | MAP_ANONYMOUS | MAP_NORESERVE, -1, 0);
@@ -1519,9 +1517,7 @@ int main(void) {
     try_drain();
     try_clear();
     try_slot_abandon();
-#ifdef LEAST_ALONG
     try_least_along();
-#endif
     end_function();
     if (failures > MOST_TOLD) fprintf(stderr, "limits: %lu more checks failed\n", failures - MOST_TOLD);
     printf("limits: %lu functions, %lu checks, %lu failed\n", functions, all_checks, failures);
