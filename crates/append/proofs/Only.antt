@@ -1,15 +1,13 @@
 -- No second answer fits the appends' contracts, and no other bytes.
 -- Assumes nothing.
 use Prim.Native.Nat.{ℕ}
-use mathlib.Core.Path.{_≡_, refl, sym, ap, _∙_}
-use mathlib.Core.List.{List, []}
+use mathlib.Core.Path.{_≡_, sym, ap, _∙_}
 use native.Mathlib.Omega.{arith}
 use denote.Ref.{now}
 use Rattle.answers.specs.Numbers.{numberOf}
-use Rattle.answers.specs.Answers.{Said, accepted, refused}
 use Rattle.answers.specs.OneAnswer.{OneOutcome}
 use Rattle.answers.proofs.Cases.{same-number}
-use Rattle.append.specs.Append.{said, Appends}
+use Rattle.append.specs.Append.{said}
 use Rattle.append.specs.declared.Appended.{Appended}
 use Rattle.append.specs.declared.Appended.the-variants.{Used, Refused}
 use Rattle.append.proofs.append_data.Kinds as data-kinds

@@ -1,7 +1,7 @@
 -- No second answer fits the contract of the read at a place.
 -- Assumes nothing.
 use Prim.Native.Nat.{ℕ}
-use mathlib.Core.Path.{_≡_, refl, sym, ap, _∙_}
+use mathlib.Core.Path.{_≡_, sym, ap, _∙_}
 use native.Mathlib.Omega.{arith}
 use Rattle.answers.specs.Numbers.{numberOf}
 use Rattle.answers.specs.OneAnswer.{OneAnswer}

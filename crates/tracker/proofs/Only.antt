@@ -11,7 +11,7 @@ use Rattle.tracker.specs.State.{State, view}
 use Rattle.tracker.specs.Outcome.{Met}
 use Rattle.tracker.specs.Reserving.{saidReserve}
 use Rattle.tracker.specs.Recording.{saidRecord}
-use Rattle.tracker.specs.Finishing.{Finished, stale, saidFinish}
+use Rattle.tracker.specs.Finishing.{stale, saidFinish}
 use Rattle.tracker.specs.Draining.{saidDrain}
 use Rattle.tracker.specs.Clearing.{saidClear}
 use Rattle.tracker.proofs.Sayings.{reserve-says, record-says, finish-says, checkpoint-says, drain-says, clear-says}
