@@ -1,14 +1,15 @@
--- The listing is one walk and the listing from the end of what it found.
+-- The listing is one walk and the listing from the end of what it found; and its entries end within the region.
 -- Assumes nothing.
 use Prim.Native.Nat.{ℕ, zero, suc, _+_, _-_, _/_, _≤_}
 use mathlib.Core.Path.{_≡_, refl, sym, ap, _∙_}
 use mathlib.Core.List.{List, _∷_}
 use native.Mathlib.Omega.{arith}
+use lib.ListN.{length}
 use Rattle.answers.specs.Answers.{Said, accepted, refused}
 use Rattle.fields.specs.Numbers.{aligned}
 use Rattle.entry.specs.declared.Entry.{Entry}
 use Rattle.scan.specs.Walk.{Step, found, ended, walk}
-use Rattle.scan.specs.Listing.{Listed, grow, listMost, list}
+use Rattle.scan.specs.Listing.{Listed, grow, listMost, list, lastEnd}
 use Rattle.scan.proofs.Walks.{Stands, walk-over, walk-found}
 
 module _ (mark : ℕ → ℕ) (s : List ℕ) where
@@ -49,3 +50,18 @@ module _ (mark : ℕ → ℕ) (s : List ℕ) where
           (enough bound (lines bound offset) (lines bound (e .end)) (e .end) (falls bound offset (lines bound offset) z (omega arith)) (omega arith))
       go (accepted ended) q = refl
       go (refused k v) q = refl
+
+  -- every entry that is listed ends within the region
+  most-ends : (bound n offset none : ℕ) → none ≤ length s → lastEnd none (listMost mark s n bound offset .entries) ≤ length s
+  unfolding listMost
+  most-ends bound zero offset none h = h
+  most-ends bound (suc n) offset none h = go (walk mark s bound offset) refl (λ e. most-ends bound n (e .end) (e .end))
+    where
+      go : (x : Said Step) → walk mark s bound offset ≡ x → ((e : Entry) → e .end ≤ length s → lastEnd (e .end) (listMost mark s n bound (e .end) .entries) ≤ length s) → lastEnd none (grow x (λ (e : Entry). listMost mark s n bound (e .end)) .entries) ≤ length s
+      go (accepted (found e)) q ih = ih e (walk-found mark s bound offset q .fits)
+      go (accepted ended) q ih = h
+      go (refused k v) q ih = h
+
+  pub list-ends : (bound offset none : ℕ) → none ≤ length s → lastEnd none (list mark s bound offset .entries) ≤ length s
+  unfolding list
+  list-ends bound offset = most-ends bound _ offset

@@ -1,4 +1,5 @@
 pub mod Bounds
+pub mod Ends
 pub mod Only
 pub mod Turns
 pub mod Zeros
