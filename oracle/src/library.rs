@@ -1,61 +1,23 @@
 //! The proved library, called through its C interface. A call that refuses has to leave its out parameters and the lent
 //! bytes alone, which is looked at here: an answer that doesn't keep to it gets a number that no table has.
-use crate::{
-    calls::{Call, Region, Said, HEADER, MAX_REGION},
-    paper::Paper,
-};
+use locker_log::sys::{self, RawEntry};
 
-mod exports;
+use crate::calls::{Call, Region, Said, HEADER, MAX_REGION};
 
-pub use exports::stand_ins;
-
-#[derive(Clone, Copy, PartialEq, Eq)]
-#[repr(C)]
-struct Entry([u64; 8]);
-
-extern "C" {
-    fn locker_hash(bytes: *const u8, length: usize) -> u16;
-    fn locker_update(state: u16, bytes: *const u8, length: usize) -> u16;
-    fn locker_read_header(header: *const u8, length: usize, ordinal: *mut u64) -> u32;
-    fn locker_write_header(lent: *mut u8, length: usize, ordinal: u64) -> u32;
-    fn locker_read_at(region: *const u8, length: usize, p: usize, hint: usize, entry: *mut Entry) -> u32;
-    fn locker_append_data(
-        region: *mut u8,
-        length: usize,
-        used: usize,
-        kind: u64,
-        ns: u64,
-        key: *const u8,
-        klen: usize,
-        value: *const u8,
-        vlen: usize,
-        next: *mut u64,
-    ) -> u32;
-    fn locker_append_tombstone(
-        region: *mut u8,
-        length: usize,
-        used: usize,
-        ns: u64,
-        key: *const u8,
-        klen: usize,
-        next: *mut u64,
-    ) -> u32;
-    fn locker_walk(
-        region: *const u8,
-        length: usize,
-        bound: usize,
-        offset: usize,
-        entry: *mut Entry,
-        found: *mut u64,
-        place: *mut u64,
-    ) -> u32;
-    fn locker_part(region: *const u8, length: usize, at: usize, len: usize, start: *mut u64, count: *mut u64);
-    fn locker_used_bound(region: *const u8, length: usize, bound: *mut u64) -> u32;
-    fn locker_durable_end(region: *const u8, length: usize, bound: usize, end: *mut u64, place: *mut u64) -> u32;
-}
+mod tracker;
 
 /// What out parameters hold before a call.
 const UNTOUCHED: u64 = 0x5555_aaaa_1234_fedc;
+const UNTOUCHED_ENTRY: RawEntry = RawEntry {
+    offset: UNTOUCHED,
+    kind: UNTOUCHED,
+    ns: UNTOUCHED,
+    klen: UNTOUCHED,
+    vlen: UNTOUCHED,
+    vplace: UNTOUCHED,
+    kplace: UNTOUCHED,
+    end: UNTOUCHED,
+};
 /// The number of an answer that wrote where it shouldn't have.
 const WROTE: u32 = 900;
 
@@ -67,8 +29,6 @@ pub trait Side {
 pub struct Library {
     /// Zeros, as many as the largest region has and some more. Only touched pages take memory.
     big: Vec<u8>,
-    /// Document 01 written out as a program, for the operations that the library doesn't export yet.
-    paper: Paper,
 }
 
 /// The part of a sparse region that a call can change or that holds its bytes, with some bytes around it.
@@ -86,8 +46,15 @@ pub fn window(region: &Region, used: u64, length: u64) -> std::ops::Range<usize>
 fn part_of(region: &[u8], at: u64, len: u64) -> &[u8] {
     let (mut start, mut count) = (UNTOUCHED, UNTOUCHED);
     // SAFETY: the library's contract: any numbers, a region of that length, two numbers to write to.
-    unsafe { locker_part(region.as_ptr(), region.len(), at as usize, len as usize, &mut start, &mut count) };
+    unsafe { sys::locker_part(region.as_ptr(), region.len(), at as usize, len as usize, &mut start, &mut count) };
     &region[start as usize..(start + count) as usize]
+}
+
+/// An entry's eight numbers, and its key and value behind each other.
+fn told(region: &[u8], entry: RawEntry) -> ([u64; 8], Vec<u8>) {
+    let RawEntry { offset, kind, ns, klen, vlen, vplace, kplace, end } = entry;
+    let bytes = [part_of(region, kplace, klen), part_of(region, vplace, vlen)].concat();
+    ([offset, kind, ns, klen, vlen, vplace, kplace, end], bytes)
 }
 
 /// A read of the library on a region that it must not change, small ones looked at afterwards.
@@ -101,37 +68,41 @@ fn reading(region: &[u8], call: impl FnOnce(&[u8]) -> Said) -> Said {
 }
 
 fn read_at(region: &[u8], place: u64, hint: u64) -> Said {
-    let mut entry = Entry([UNTOUCHED; 8]);
+    let mut entry = UNTOUCHED_ENTRY;
     // SAFETY: as above.
-    let number = unsafe { locker_read_at(region.as_ptr(), region.len(), place as usize, hint as usize, &mut entry) };
+    let number =
+        unsafe { sys::locker_read_at(region.as_ptr(), region.len(), place as usize, hint as usize, &mut entry) };
     if number != 0 {
-        return Said::refused(if entry == Entry([UNTOUCHED; 8]) { number } else { WROTE });
+        return Said::refused(if entry == UNTOUCHED_ENTRY { number } else { WROTE });
     }
-    let e = entry.0;
-    let bytes = [part_of(region, e[6], e[3]), part_of(region, e[5], e[4])].concat();
-    Said { values: e.to_vec(), bytes, ..Default::default() }
+    let (numbers, bytes) = told(region, entry);
+    Said { values: numbers.to_vec(), bytes, ..Default::default() }
 }
 
 fn walk(region: &[u8], bound: u64, offset: u64) -> Said {
-    let mut entry = Entry([UNTOUCHED; 8]);
+    let mut entry = UNTOUCHED_ENTRY;
     let (mut found, mut place) = (UNTOUCHED, UNTOUCHED);
     // SAFETY: as above.
     let number = unsafe {
-        locker_walk(region.as_ptr(), region.len(), bound as usize, offset as usize, &mut entry, &mut found, &mut place)
+        sys::locker_walk(
+            region.as_ptr(),
+            region.len(),
+            bound as usize,
+            offset as usize,
+            &mut entry,
+            &mut found,
+            &mut place,
+        )
     };
-    let entry_left = entry == Entry([UNTOUCHED; 8]);
+    let entry_left = entry == UNTOUCHED_ENTRY;
     match number {
         10 if entry_left && found == UNTOUCHED => Said { number, values: vec![place], ..Default::default() },
         0 if found == 0 && entry_left && place == UNTOUCHED => Said::values(&[0]),
         0 if found == 1 && place == UNTOUCHED => {
-            let e = entry.0;
+            let (numbers, bytes) = told(region, entry);
             let mut values = vec![1];
-            values.extend(e);
-            Said {
-                values,
-                bytes: [part_of(region, e[6], e[3]), part_of(region, e[5], e[4])].concat(),
-                ..Default::default()
-            }
+            values.extend(numbers);
+            Said { values, bytes, ..Default::default() }
         }
         1..=9 | 11.. if entry_left && found == UNTOUCHED && place == UNTOUCHED => Said::refused(number),
         _ => Said::refused(WROTE),
@@ -157,7 +128,7 @@ pub fn listing(mut step: impl FnMut(u64) -> Said) -> Said {
 fn used_bound(region: &[u8]) -> Said {
     let mut bound = UNTOUCHED;
     // SAFETY: as above.
-    match unsafe { locker_used_bound(region.as_ptr(), region.len(), &mut bound) } {
+    match unsafe { sys::locker_used_bound(region.as_ptr(), region.len(), &mut bound) } {
         0 => Said::values(&[bound]),
         number if bound == UNTOUCHED => Said::refused(number),
         _ => Said::refused(WROTE),
@@ -167,7 +138,7 @@ fn used_bound(region: &[u8]) -> Said {
 fn durable_end(region: &[u8], bound: u64) -> Said {
     let (mut end, mut place) = (UNTOUCHED, UNTOUCHED);
     // SAFETY: as above.
-    match unsafe { locker_durable_end(region.as_ptr(), region.len(), bound as usize, &mut end, &mut place) } {
+    match unsafe { sys::locker_durable_end(region.as_ptr(), region.len(), bound as usize, &mut end, &mut place) } {
         0 if place == UNTOUCHED => Said::values(&[end]),
         10 if end == UNTOUCHED => Said { number: 10, values: vec![place], ..Default::default() },
         number if number != 0 && end == UNTOUCHED && place == UNTOUCHED => Said::refused(number),
@@ -178,9 +149,20 @@ fn durable_end(region: &[u8], bound: u64) -> Said {
 fn read_header(bytes: &[u8]) -> Said {
     let mut ordinal = UNTOUCHED;
     // SAFETY: as above.
-    match unsafe { locker_read_header(bytes.as_ptr(), bytes.len(), &mut ordinal) } {
+    match unsafe { sys::locker_read_header(bytes.as_ptr(), bytes.len(), &mut ordinal) } {
         0 => Said::values(&[ordinal]),
         number if ordinal == UNTOUCHED => Said::refused(number),
+        _ => Said::refused(WROTE),
+    }
+}
+
+fn start_file(ordinals: &[u64], cursor: u64) -> Said {
+    let (mut found, mut place) = (UNTOUCHED, UNTOUCHED);
+    // SAFETY: a list of that length, and two numbers to write to.
+    match unsafe { sys::locker_start_file(ordinals.as_ptr(), ordinals.len(), cursor, &mut place, &mut found) } {
+        0 if found == 1 => Said::values(&[1, place]),
+        0 if found == 0 && place == UNTOUCHED => Said::values(&[0]),
+        number if number != 0 && found == UNTOUCHED && place == UNTOUCHED => Said::refused(number),
         _ => Said::refused(WROTE),
     }
 }
@@ -205,8 +187,8 @@ fn boot(file: &[u8]) -> Said {
 
 impl Library {
     pub fn new() -> Self {
-        assert_eq!(exports::fresh(), crate::draw::fresh_state(), "what the library makes fresh is where traces begin");
-        Library { big: vec![0; MAX_REGION + 4096], paper: Paper::plain() }
+        assert_eq!(tracker::fresh(), crate::draw::fresh_state(), "what the library makes fresh is where traces begin");
+        Library { big: vec![0; MAX_REGION + 4096] }
     }
 
     /// Lends a region to a call, and puts a sparse one back to zeros afterwards.
@@ -252,21 +234,21 @@ impl Side for Library {
     fn say(&mut self, call: &Call) -> Said {
         match call {
             // SAFETY (all of these): the library's contract: any bytes, any numbers, and places to write to.
-            Call::Hash { bytes } => Said::values(&[unsafe { locker_hash(bytes.as_ptr(), bytes.len()) }.into()]),
+            Call::Hash { bytes } => Said::values(&[unsafe { sys::locker_hash(bytes.as_ptr(), bytes.len()) }.into()]),
             Call::Update { state, bytes } => {
-                Said::values(&[unsafe { locker_update(*state, bytes.as_ptr(), bytes.len()) }.into()])
+                Said::values(&[unsafe { sys::locker_update(*state, bytes.as_ptr(), bytes.len()) }.into()])
             }
             Call::ReadHeader { bytes } => reading(bytes, read_header),
             Call::WriteHeader { lent, ordinal } => {
                 let mut bytes = lent.clone();
-                let number = unsafe { locker_write_header(bytes.as_mut_ptr(), bytes.len(), *ordinal) };
+                let number = unsafe { sys::locker_write_header(bytes.as_mut_ptr(), bytes.len(), *ordinal) };
                 Said { number, bytes, ..Default::default() }
             }
             Call::ReadAt { region, place, hint } => self.look(region, |lent| read_at(lent, *place, *hint)),
             Call::AppendData { region, used, kind, ns, key, value } => {
                 let length = up(10 + key.len() + value.len());
                 self.append(region, *used, length, |lent, next| unsafe {
-                    locker_append_data(
+                    sys::locker_append_data(
                         lent.as_mut_ptr(),
                         lent.len(),
                         *used as usize,
@@ -282,7 +264,7 @@ impl Side for Library {
             }
             Call::AppendTombstone { region, used, ns, key } => {
                 self.append(region, *used, up(8 + key.len()), |lent, next| unsafe {
-                    locker_append_tombstone(
+                    sys::locker_append_tombstone(
                         lent.as_mut_ptr(),
                         lent.len(),
                         *used as usize,
@@ -303,10 +285,14 @@ impl Side for Library {
             Call::UsedBound { region } => self.look(region, used_bound),
             Call::DurableEnd { region, bound } => self.look(region, |lent| durable_end(lent, *bound)),
             Call::Boot { file } => boot(file),
-            Call::Track { state, step } => exports::track(&mut self.paper, state, step),
-            Call::ReplayData { klen, vlen, maximum } => exports::replay_data(&mut self.paper, *klen, *vlen, *maximum),
-            Call::ReplayTombstone { klen, maximum } => exports::replay_tombstone(&mut self.paper, *klen, *maximum),
-            Call::StartFile { ordinals, cursor } => exports::start_file(&mut self.paper, ordinals, *cursor),
+            Call::Track { state, step } => tracker::track(state, step),
+            Call::ReplayData { klen, vlen, maximum } => {
+                Said::refused(unsafe { sys::locker_replay_data(*klen as usize, *vlen as usize, *maximum as usize) })
+            }
+            Call::ReplayTombstone { klen, maximum } => {
+                Said::refused(unsafe { sys::locker_replay_tombstone(*klen as usize, *maximum as usize) })
+            }
+            Call::StartFile { ordinals, cursor } => start_file(ordinals, *cursor),
         }
     }
 }

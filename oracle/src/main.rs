@@ -1,6 +1,7 @@
 //! The comparison of the proved library with the original program. `oracle/run`, `oracle/awake` and `oracle/record` start
 //! it; README.md says what is compared.
 mod calls;
+mod cells;
 mod codec;
 mod draw;
 mod fixed;
@@ -180,19 +181,13 @@ fn run(options: &Options) -> Result<bool, String> {
         tell_disagreement(&mut *side, &mut judge, call);
     }
     let seconds = progress.start.elapsed().as_secs_f64();
-    table.print(options.paper);
+    table.print();
     if wrong.is_none() {
         table.holes().iter().for_each(|hole| println!("never met: {hole}"));
     }
     println!("{:.1} s, {} calls a second", seconds, grouped((table.calls as f64 / seconds) as u64));
-    let stand_ins = library::stand_ins();
     if options.paper {
         println!("compared: document 01 written out as a program (paper.rs) in the library's place");
-    } else if !stand_ins.is_empty() {
-        println!(
-            "not exported by the library yet, answered by document 01 written out (paper.rs): {}",
-            stand_ins.join(", ")
-        );
     }
     println!("{}", if wrong.is_none() { "0 disagreements" } else { "1 disagreement, at which the run stopped" });
     Ok(wrong.is_none())

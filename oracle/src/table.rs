@@ -9,17 +9,6 @@ use crate::{
 /// The parting of the operation that has no counterpart in the original.
 pub const PART: &str = "part: past the region's end (a slice panics)";
 
-/// The operations that document 01 written out answers in the library's place.
-fn standing_in() -> Vec<&'static str> {
-    let groups = [
-        ("tracker", &["reserve", "complete", "abandon", "record", "checkpoint", "drain", "clear"][..]),
-        ("replay limits", &["replay data", "replay tombstone"]),
-        ("start file", &["start file"]),
-    ];
-    let missing = crate::library::stand_ins();
-    groups.iter().filter(|(group, _)| missing.contains(group)).flat_map(|(_, names)| names.iter().copied()).collect()
-}
-
 #[derive(Default)]
 pub struct Table {
     answers: BTreeMap<(&'static str, String), u64>,
@@ -50,8 +39,7 @@ impl Table {
             .collect()
     }
 
-    /// `paper`: nothing was asked of the library.
-    pub fn print(&self, paper: bool) {
+    pub fn print(&self) {
         println!("{:<20} {:>11}  answers met", "operation", "calls");
         for operation in OPERATIONS {
             let counts: Vec<(&str, u64)> =
@@ -76,9 +64,6 @@ impl Table {
             - self.partings.get(PART).copied().unwrap_or(0);
         println!("{:>11}  the original gave the answer", grouped(self.calls - parted - by_rule));
         println!("{:>11}  checksums and parts, held to the catalogue's rule and to a plain slice", grouped(by_rule));
-        let standing_in: u64 = standing_in().iter().map(|name| self.calls_of(name)).sum();
-        let asked = if paper { 0 } else { self.calls - standing_in };
-        println!("{:>11}  of all calls were asked of the proved library", grouped(asked));
     }
 
     fn calls_of(&self, operation: &str) -> u64 {

@@ -20,7 +20,7 @@
 #![warn(missing_docs)]
 
 mod refusal;
-mod sys;
+pub mod sys;
 mod tracker;
 
 pub use refusal::{Refusal, WalkError};

@@ -1,10 +1,12 @@
-//! The library's own functions, as include/locker_log.h declares them.
+//! The raw interface: the library's own functions and structs as include/locker_log.h declares them, which says what each
+//! does. For those who compare or measure; everybody else has the safe interface around it.
+#![allow(missing_docs)]
 
 use crate::tracker::{Cells, Reserved, Slot};
 
 /// An entry as the library tells it: `struct locker_entry`.
 #[repr(C)]
-#[derive(Clone, Copy, Debug, Default)]
+#[derive(Clone, Copy, Debug, Default, PartialEq, Eq)]
 pub struct RawEntry {
     pub offset: u64,
     pub kind: u64,
@@ -18,7 +20,7 @@ pub struct RawEntry {
 
 /// A checkpoint as the library tells it: `struct locker_progress`.
 #[repr(C)]
-#[derive(Default)]
+#[derive(Clone, Copy, Debug, Default, PartialEq, Eq)]
 pub struct RawProgress {
     pub ordinal: u64,
     pub offset: u64,
@@ -29,6 +31,7 @@ pub struct RawProgress {
 
 /// A search along slots as the library tells it: `struct locker_least`.
 #[repr(C)]
+#[derive(Clone, Copy, Debug, Default, PartialEq, Eq)]
 pub struct RawLeast {
     pub any: bool,
     pub ordinal: u64,

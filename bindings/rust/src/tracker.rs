@@ -147,7 +147,7 @@ impl Slot {
 
 /// The least place and the least open number along a run of slots of any length, as a checkpoint has them. Refuses nothing.
 pub fn least_along(slots: &[Slot], ordinal: u64, used: u64) -> Least {
-    let mut least = RawLeast { any: false, ordinal: 0, offset: 0, limit: 0 };
+    let mut least = RawLeast::default();
     // SAFETY: one slice, and a place to write to of our own.
     let answer = unsafe { sys::locker_least_along(slots.as_ptr(), slots.len(), ordinal, used, &mut least) };
     debug_assert_eq!(answer, 0);

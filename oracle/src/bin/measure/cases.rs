@@ -349,12 +349,6 @@ impl Bench {
         Ok(())
     }
 
-    #[cfg(not(tracker_exports))]
-    fn tracker(&mut self) -> Result<(), String> {
-        Ok(())
-    }
-
-    #[cfg(tracker_exports)]
     fn tracker(&mut self) -> Result<(), String> {
         self.named("tracker, reserve and complete", |bench| {
             bench.tracker_calls("reserve and complete", &busy(), |calls| match calls {
@@ -384,7 +378,6 @@ impl Bench {
     }
 
     /// One row of tracker calls from `state` on; the state afterwards is part of the answer.
-    #[cfg(tracker_exports)]
     fn tracker_calls(
         &mut self,
         name: &str,
@@ -394,7 +387,7 @@ impl Bench {
         let (count, file) = (self.sizes.pairs, &mut self.file);
         let seconds = in_turns(self.sizes.rounds, |side| {
             if side == Side::Library {
-                let mut tracker = library::tracker::Tracker::of(state);
+                let mut tracker = library::Tracker::of(state);
                 let (seconds, answer) = timed(|| calls(Calls::Library(&mut tracker, count)))?;
                 Ok((seconds, (answer, tracker.state())))
             } else {
@@ -453,23 +446,19 @@ fn bytes(count: u64) -> String {
     format!("{} bytes", grouped(count))
 }
 
-#[cfg(tracker_exports)]
 enum Calls<'a> {
-    Library(&'a mut library::tracker::Tracker, u64),
+    Library(&'a mut library::Tracker, u64),
     Original(&'a original::Tracker, &'a mut File, u64),
 }
 
 /// The largest region, which a row of reservations fills from its start on.
-#[cfg(tracker_exports)]
 const ROOM: u32 = 268_435_456;
 
-#[cfg(tracker_exports)]
 fn fresh() -> original::State {
     original::State { slots: Default::default(), queues: Default::default(), next: 1 }
 }
 
 /// Sixteen deltas wait on each of the shards 0 to 7, and the shards 8 to 15 have an open slot.
-#[cfg(tracker_exports)]
 fn busy() -> original::State {
     let mut state = fresh();
     for shard in 0..8 {

@@ -1,5 +1,8 @@
 //! Measures the proved library against the original, in one process and in turns. `bench/run` starts it.
 mod cases;
+// The comparison's tracker cells.
+#[path = "../../cells.rs"]
+mod cells;
 mod chart;
 mod library;
 mod machine;

@@ -101,10 +101,6 @@ const HEADS: [&str; 7] =
     ["case", "unit", "library", "original 1", "original 16", "times original 1", "times original 16"];
 
 impl Run {
-    pub fn has_tracker(&self) -> bool {
-        self.rows.iter().any(|row| row.panel == Panel::Tracker)
-    }
-
     /// What the numbers mean: sentences for the screen and for the document.
     fn notes(&self) -> Vec<String> {
         let sizes = &self.sizes;
@@ -153,19 +149,14 @@ impl Run {
             grouped(sizes.append_bytes),
             writing.join(", ")
         ));
-        notes.push(if self.has_tracker() {
-            format!(
-                "Tracker calls are {} in a row, a pair as one. Sixteen deltas wait on each of the shards 0 to 7 and the \
-                 shards 8 to 15 have an open slot, but for record and drain, which start from a fresh tracker. The \
-                 original's has locks and atomics, since it serves threads; the library's looks its whole state through \
-                 before each call (refusal 28).",
-                grouped(sizes.pairs)
-            )
-        } else {
-            "The tracker's rows (reserve and complete, record and drain, checkpoint) are left out: the library doesn't export \
-             its calls yet."
-                .to_string()
-        });
+        notes.push(format!(
+            "Tracker calls are {} in a row, a pair as one. Sixteen deltas wait on each of the shards 0 to 7 and the shards 8 to \
+             15 have an open slot, but for record and drain, which start from a fresh tracker. Each of the library's calls \
+             copies the tracker's 5,128 bytes in from behind its pointer, checks first that they are sound (refusal 28), and \
+             copies them out again (a checkpoint has nothing to copy out). The original works in place, with locks and \
+             atomics since it serves threads, and checks nothing.",
+            grouped(sizes.pairs)
+        ));
         notes.push(
             "In the hostile region every line has the right mark and asks for a key and a value of 65,535 bytes, and no \
              checksum agrees, so that every line with as many bytes behind it has 131,078 bytes summed."
