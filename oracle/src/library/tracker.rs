@@ -1,6 +1,6 @@
 //! The tracker's calls.
 use locker_log::{
-    sys::{self, RawProgress},
+    sys::{self, RawLeast, RawProgress},
     Cells, Reserved,
 };
 
@@ -57,6 +57,15 @@ fn slot_agrees(before: &Cells, after: &Cells, shard: u64, number: u64, done: u64
     answer == 0 && told == done && slot == after.slots[shard as usize]
 }
 
+/// The search along the sixteen slots has to tell the checkpoint's cursor and limit, and whether a slot is open.
+fn search_agrees(cells: &Cells, ordinal: u64, used: u64, checkpoint: &[u64]) -> bool {
+    let mut least = RawLeast::default();
+    // SAFETY: the library's contract: a run of that many slots, and a place to write to.
+    let answer = unsafe { sys::locker_least_along(cells.slots.as_ptr(), cells.slots.len(), ordinal, used, &mut least) };
+    let open = cells.slots.iter().any(|slot| slot.number != 0);
+    answer == 0 && least.any == open && [least.ordinal, least.offset] == checkpoint[..2] && least.limit == checkpoint[3]
+}
+
 /// A call that answers numbers. Every cell has to stay on a refusal, on Stale and in a checkpoint, and on a refusal every
 /// out parameter too; the library's own word on soundness has to go with its answer.
 pub fn track(state: &State, step: &Step) -> Said {
@@ -96,7 +105,7 @@ pub fn track(state: &State, step: &Step) -> Said {
             (stays || values == [1]) && slot_agrees(&before, &cells, shard, number, values[0])
         }
         (0, Step::Complete { .. }) => stays || values == [1],
-        (0, Step::Checkpoint { .. }) => stays,
+        (0, &Step::Checkpoint { ordinal, used }) => stays && search_agrees(&before, ordinal, used, &values),
         (0, _) => true,
         _ => stays && outs_left,
     };
