@@ -38,9 +38,12 @@ abbrev pub RecordOut : Tracker → ℕ → ℤ → ℕ → Tracker → ℕ → �
 RecordOut t shard delta = Out ℕ ℕ (recordOf (view t) shard) valueOut t (recorded (view t) shard delta)
 
 -- 1 for Done, 0 for Stale
+abbrev pub doneNumber : Finished → ℕ
+doneNumber done = 1
+doneNumber stale = 0
+
 abbrev pub doneOut : Said Finished → ℕ → ℕ
-doneOut (accepted done) old = 1
-doneOut (accepted stale) old = 0
+doneOut (accepted finished) old = doneNumber finished
 doneOut (refused n values) old = old
 
 -- besides `Out`: a stale call, too, leaves the very same tracker
@@ -78,10 +81,6 @@ ClearOut t after r = Out Empty (Unit {0}) (clearOf (view t)) (λ _ old. old) t (
 pub record FreshOut (after : Tracker) (r : ℕ) : Type 0 where
   pub says : r ≡ 0
   pub state : view after ≡ freshState
-
-abbrev pub doneNumber : Finished → ℕ
-doneNumber done = 1
-doneNumber stale = 0
 
 -- one slot on its own refuses nothing
 pub record SlotOut (slot : Slot) (number : ℕ) (after : Slot) (out r : ℕ) : Type 0 where

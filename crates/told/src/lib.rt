@@ -218,34 +218,34 @@ pub fn drain(tracker: Tracker, limit: u64, out: i64) -> SumTold
 }
 
 // A call that tells nothing but its number.
-pub struct ClearTold {
+pub struct StateTold {
     pub tracker: Tracker,
     pub answer: u32,
 }
 
 // Whatever stood there is given up.
-pub fn fresh(tracker: Tracker) -> ClearTold
+pub fn fresh(tracker: Tracker) -> StateTold
     ensures { λ r. ⌜ FreshOut (r .tracker) (r .answer) ⌝ }
 {
     let new = tracker::fresh();
-    ClearTold {
+    StateTold {
         tracker: new,
         answer: 0,
     }
 }
 
-pub fn clear(tracker: Tracker) -> ClearTold
+pub fn clear(tracker: Tracker) -> StateTold
     ensures { λ r. ⌜ ClearOut tracker (r .tracker) (r .answer) ⌝ }
 {
     let after = tracker::clear(tracker);
     let left = after.tracker;
     let answer = after.answer;
     match answer {
-        ClearAnswer::Cleared => ClearTold {
+        ClearAnswer::Cleared => StateTold {
             tracker: left,
             answer: 0,
         },
-        ClearAnswer::Refused(refusal) => ClearTold {
+        ClearAnswer::Refused(refusal) => StateTold {
             tracker: left,
             answer: answers::number(refusal),
         },

@@ -38,9 +38,9 @@ use denote.Triple.Table.{entered, cited}
 use denote.Triple.Walked.{says, Stays, stay-ref, walkOf, goes-ref, ends-at}
 use Rattle.told.specs.Told.{FreshOut}
 use Rattle.locker.proofs.Behind.{opened, closed, answered, asked, met-by}
-use Rattle.told.proofs.ClearTold as O
-use Rattle.told.proofs.ClearTold.Laws as O′
-use Rattle.told.specs.declared.ClearTold.{ClearTold}
+use Rattle.told.proofs.StateTold as O
+use Rattle.told.proofs.StateTold.Laws as O′
+use Rattle.told.specs.declared.StateTold.{StateTold}
 use Rattle.tracker.proofs.Tracker as T
 use Rattle.tracker.proofs.Tracker.Laws as T′
 use Rattle.tracker.specs.declared.Tracker.{Tracker}
@@ -74,10 +74,10 @@ module _ {M : Type 1} (𝓤 : URA M) (H : Heap 𝓤) (A : Atoms 𝓤) (W : Given
   abbrev to : G 𝓤 H A at-mem run .Ghost
   to = ((tt, tt, tt, (h₀, tt), (LL.val T.the-type T′.the-laws h₀ ∷ [], tt)), tt)
 
-  said : (r : ClearTold) → ent 𝓤 (ensured 𝓤 H A g.ended (g.clauses 𝓤 H A at-mem run) tt (h₀, tt) tt r) (fact 𝓤 (FreshOut (r .tracker) (r .answer)))
+  said : (r : StateTold) → ent 𝓤 (ensured 𝓤 H A g.ended (g.clauses 𝓤 H A at-mem run) tt (h₀, tt) tt r) (fact 𝓤 (FreshOut (r .tracker) (r .answer)))
   said r = exE 𝓤 _ (λ ws. snd∗ 𝓤 (sem 𝓤 H A (lasts g.ended tt (h₀, tt) ws)) (fact 𝓤 (FreshOut (r .tracker) (r .answer))))
 
-  exits : (r : ClearTold) → FreshOut (r .tracker) (r .answer) → Is u32 (r .answer) (vint w32 (r .answer) ∷ [])
+  exits : (r : StateTold) → FreshOut (r .tracker) (r .answer) → Is u32 (r .answer) (vint w32 (r .answer) ∷ [])
       → ent 𝓤 (⋆ 𝓤 H A (‵ (fobs γ₀ (T.the-row .coded .code (r .tracker))) ∷ ‵ (fbor κ₀ (Body (mem T.the-row) b₀ o₀ γ₀)) ∷ ‵ (flft κ₀ q₀) ∷ [])) (Post (vint w32 (r .answer)))
   exits r e is =
       qed W (‵ (fobs γ₀ (T.the-row .coded .code (r .tracker))) ∷ ‵ (fbor κ₀ (Body (mem T.the-row) b₀ o₀ γ₀)) ∷ ‵ (flft κ₀ q₀) ∷ []) ∵
