@@ -1,5 +1,5 @@
-// Measures the proved checksum beside a plain C one: CRC-16/IBM-3740, a byte a step by a table of 256. bench/hash builds
-// and runs this. Prints a line for each size, and ends with status 1 if the two sums ever differ.
+// Measures the proved checksum beside plain C ones: CRC-16/IBM-3740, a byte a step by a table of 256 and two bytes a step
+// by two. bench/hash builds and runs this. Prints a line for each size, and ends with status 1 if two sums ever differ.
 #define _POSIX_C_SOURCE 199309L
 #include <stdint.h>
 #include <stdio.h>
@@ -13,19 +13,24 @@ typedef uint16_t hash_fn(const uint8_t *bytes, size_t length);
 // the proved function, a slice as its place and its length
 hash_fn bench_hash;
 
-static uint16_t table[256];
+static uint16_t table[256], second[256];
 
-static void fill_table(void)
+static uint16_t after_bits(unsigned r, int bits)
+{
+    for (int bit = 0; bit < bits; bit++)
+        r = r & 0x8000 ? r << 1 ^ 0x1021 : r << 1;
+    return (uint16_t)r;
+}
+
+static void fill_tables(void)
 {
     for (unsigned k = 0; k < 256; k++) {
-        unsigned r = k << 8;
-        for (int bit = 0; bit < 8; bit++)
-            r = r & 0x8000 ? r << 1 ^ 0x1021 : r << 1;
-        table[k] = (uint16_t)r;
+        table[k] = after_bits(k << 8, 8);
+        second[k] = after_bits(k << 8, 16);
     }
 }
 
-static uint16_t plain_hash(const uint8_t *bytes, size_t length)
+static uint16_t plain_bytes(const uint8_t *bytes, size_t length)
 {
     uint16_t r = 0xffff;
     for (size_t i = 0; i < length; i++)
@@ -33,9 +38,18 @@ static uint16_t plain_hash(const uint8_t *bytes, size_t length)
     return r;
 }
 
+static uint16_t plain_pairs(const uint8_t *bytes, size_t length)
+{
+    uint16_t r = 0xffff;
+    size_t i = 0;
+    for (; i + 1 < length; i += 2)
+        r = second[r >> 8 ^ bytes[i]] ^ table[(r & 0xff) ^ bytes[i + 1]];
+    return i < length ? (uint16_t)(r << 8) ^ table[r >> 8 ^ bytes[i]] : r;
+}
+
 // Calls go through these, so that the compiler can neither merge nor skip them.
-static hash_fn *volatile const proved = bench_hash;
-static hash_fn *volatile const plain = plain_hash;
+enum { PROVED, BYTES, PAIRS, SIDES };
+static hash_fn *volatile const sides[SIDES] = {bench_hash, plain_bytes, plain_pairs};
 
 static double now(void)
 {
@@ -45,31 +59,35 @@ static double now(void)
 }
 
 // The seconds that `calls` calls take.
-static double timed(hash_fn *volatile const *hash, const uint8_t *bytes, size_t length, size_t calls)
+static double timed(int side, const uint8_t *bytes, size_t length, size_t calls)
 {
     double began = now();
     for (size_t i = 0; i < calls; i++)
-        (*hash)(bytes, length);
+        sides[side](bytes, length);
     return now() - began;
+}
+
+static int agree(const uint8_t *bytes, size_t length)
+{
+    uint16_t sum = sides[PROVED](bytes, length);
+    return sides[BYTES](bytes, length) == sum && sides[PAIRS](bytes, length) == sum;
 }
 
 static int measure(const uint8_t *bytes, size_t length)
 {
     size_t calls = LARGEST / length;
-    double best_proved = 1e9, best_plain = 1e9;
-    for (int round = 0; round < ROUNDS; round++) {
-        double a = timed(&proved, bytes, length, calls);
-        double b = timed(&plain, bytes, length, calls);
-        if (a < best_proved)
-            best_proved = a;
-        if (b < best_plain)
-            best_plain = b;
-    }
+    double best[SIDES] = {1e9, 1e9, 1e9};
+    for (int round = 0; round < ROUNDS; round++)
+        for (int side = 0; side < SIDES; side++) {
+            double took = timed(side, bytes, length, calls);
+            if (took < best[side])
+                best[side] = took;
+        }
     double megabytes = (double)length * (double)calls / 1e6;
-    uint16_t a = proved(bytes, length), b = plain(bytes, length);
-    printf("%10zu  %12.0f  %12.0f  %14.2f  %04x %04x %s\n", length, megabytes / best_proved, megabytes / best_plain,
-           best_plain / best_proved, a, b, a == b ? "agree" : "DIFFER");
-    return a == b;
+    int right = agree(bytes, length);
+    printf("%10zu  %11.0f  %11.0f  %11.0f  %11.2f  %11.2f  %s\n", length, megabytes / best[PROVED], megabytes / best[BYTES],
+           megabytes / best[PAIRS], best[BYTES] / best[PROVED], best[PAIRS] / best[PROVED], right ? "agree" : "DIFFER");
+    return right;
 }
 
 int main(void)
@@ -86,12 +104,12 @@ int main(void)
         seed = seed * 1664525 + 1013904223;
         bytes[i] = (uint8_t)(seed >> 24);
     }
-    fill_table();
+    fill_tables();
 
-    int right = proved(digits, 9) == 0x29b1 && plain(digits, 9) == 0x29b1;
-    printf("sum of \"123456789\": proved %04x, C %04x, catalogue 29b1: %s\n", proved(digits, 9), plain(digits, 9),
-           right ? "agree" : "DIFFER");
-    printf("%10s  %12s  %12s  %14s  %s\n", "bytes", "proved MB/s", "C MB/s", "proved over C", "sums");
+    int right = agree(digits, 9) && sides[PROVED](digits, 9) == 0x29b1;
+    printf("sum of \"123456789\": %04x, catalogue 29b1: %s\n", sides[PROVED](digits, 9), right ? "agree" : "DIFFER");
+    printf("%10s  %11s  %11s  %11s  %11s  %11s  %s\n", "bytes", "proved MB/s", "C, 1 a step", "C, 2 a step", "over C, 1", "over C, 2",
+           "sums");
     for (size_t i = 0; i < sizeof lengths / sizeof *lengths; i++)
         right &= measure(bytes, lengths[i]);
     free(bytes);

@@ -15,7 +15,7 @@
  * tracker or a region between threads sees to it that one call at a time works on it.
  *
  * The library calls memcpy and memset and nothing else. A call on a tracker works on copies of it: built for Arm it
- * takes up to 16 KiB of stack, where any other call takes less than 1 KiB.
+ * takes up to 16 KiB of stack, where any other call takes less than 2 KiB.
  *
  * A region is a data file without its first 4,096 bytes. All places count from the region's first byte.
  *

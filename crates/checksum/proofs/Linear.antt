@@ -1,4 +1,4 @@
--- Any number of bits goes through exclusive or. This one fact is behind the table, and behind what damage does to a sum.
+-- Any number of bits goes through exclusive or. This one fact is behind the tables, and behind what damage does to a sum.
 -- Assumes nothing.
 use mathlib.Core.Path.{_≡_, refl, sym, ap, ap₂, _∙_}
 use Prim.Native.Nat.{ℕ, zero, suc, _+_, _*_, _/_, _%_, _^_, _<_, _≤_}
@@ -8,7 +8,7 @@ use lib.Dec.{lit<, lit≤}
 use lib.Pow.{pow-pos, pow-mono, split, shr-lt, shl-lt}
 use lib.Bits.{bitXor, xor-lt, xor-mod, xor-shr, xor-block, xor-shifted, xor-zero-r, xor-comm}
 use Rattle.checksum.specs.Catalogue.{taken, step, steps, byte}
-use Rattle.checksum.proofs.Xor.{xor-four, xor-shift}
+use Rattle.checksum.proofs.Xor.{xor-swap, xor-four, xor-shift}
 
 -- ---- a register stays below 2 ^ 16
 
@@ -94,16 +94,21 @@ halves r b =
     ∙ sym (xor-shifted (bitXor (r / 2 ^ 8) b) 8 (r % 2 ^ 8) low)
     ∙ xor-comm (bitXor (r / 2 ^ 8) b * 2 ^ 8) (r % 2 ^ 8)
 
+-- through eight bits: what stands in the lower half only moves up, and what stands in the upper one leaves it
+eight-bits : (low up : ℕ) → low < 2 ^ 8 → up < 2 ^ 8 → steps 8 (bitXor low (up * 2 ^ 8)) ≡ bitXor (low * 2 ^ 8) (steps 8 (up * 2 ^ 8))
+eight-bits low up hl hu =
+    steps-xor 8 low (up * 2 ^ 8) (omega arith) (shl-lt 8 8 hu)
+    ∙ ap (λ (x : ℕ). bitXor x (steps 8 (up * 2 ^ 8))) (low-byte low hl)
+
 pub byte-by-place : (r b : ℕ) → r < 2 ^ 16 → b < 2 ^ 8
     → byte r b ≡ bitXor (r * 2 ^ 8 % 2 ^ 16) (steps 8 (bitXor (r / 2 ^ 8) b * 2 ^ 8))
 unfolding byte
 byte-by-place r b hr hb =
-    let up : ℕ = bitXor (r / 2 ^ 8) b * 2 ^ 8 in
-    let low : r % 2 ^ 8 < 2 ^ 8 = mod-lt r (pow-pos 8) in
+    let up : ℕ = bitXor (r / 2 ^ 8) b in
     let moved : r % 2 ^ 8 * 2 ^ 8 ≡ r * 2 ^ 8 % 2 ^ 16 = omega arith in
     ap (steps 8) (halves r b)
-    ∙ steps-xor 8 (r % 2 ^ 8) up (omega arith) (shl-lt 8 8 (place-lt r b hr hb))
-    ∙ ap (λ (x : ℕ). bitXor x (steps 8 up)) (low-byte (r % 2 ^ 8) low ∙ moved)
+    ∙ eight-bits (r % 2 ^ 8) up (mod-lt r (pow-pos 8)) (place-lt r b hr hb)
+    ∙ ap (λ (x : ℕ). bitXor x (steps 8 (up * 2 ^ 8))) moved
 
 -- ---- two bytes: the second may be added before the first one's bits, to the register's lower half
 
@@ -114,3 +119,24 @@ two-bytes r a b hr ha hb =
     let x : ℕ = bitXor r (a * 2 ^ 8) in
     ap (λ (y : ℕ). steps 8 (bitXor (steps 8 x) y)) (sym (low-byte b hb))
     ∙ ap (steps 8) (sym (steps-xor 8 x b (added-lt r a hr ha) (omega arith)))
+
+-- ---- two bytes a step: the second's place in the table is the register's lower half with that byte added to it
+
+pub second-place-lt : (r b : ℕ) → b < 2 ^ 8 → bitXor (r % 2 ^ 8) b < 2 ^ 8
+second-place-lt r b hb = xor-lt 8 (r % 2 ^ 8) b (mod-lt r (pow-pos 8)) hb
+
+pub pair-by-places : (r a b : ℕ) → r < 2 ^ 16 → a < 2 ^ 8 → b < 2 ^ 8
+    → byte (byte r a) b ≡ bitXor (steps 16 (bitXor (r / 2 ^ 8) a * 2 ^ 8)) (steps 8 (bitXor (r % 2 ^ 8) b * 2 ^ 8))
+unfolding steps
+pair-by-places r a b hr ha hb =
+    let up : ℕ = bitXor (r / 2 ^ 8) a in
+    let low : ℕ = bitXor (r % 2 ^ 8) b in
+    let hu : up < 2 ^ 8 = place-lt r a hr ha in
+    let hl : low < 2 ^ 8 = second-place-lt r b hb in
+    let added : bitXor (bitXor r (a * 2 ^ 8)) b ≡ bitXor low (up * 2 ^ 8) =
+    ap (λ (x : ℕ). bitXor x b) (halves r a) ∙ xor-swap (r % 2 ^ 8) (up * 2 ^ 8) b in
+    two-bytes r a b hr ha hb
+    ∙ ap (λ (x : ℕ). steps 8 (steps 8 x)) added
+    ∙ ap (steps 8) (eight-bits low up hl hu)
+    ∙ steps-xor 8 (low * 2 ^ 8) (steps 8 (up * 2 ^ 8)) (shl-lt 8 8 hl) (steps-lt 8 (up * 2 ^ 8) (shl-lt 8 8 hu))
+    ∙ xor-comm (steps 8 (low * 2 ^ 8)) (steps 16 (up * 2 ^ 8))

@@ -5,6 +5,7 @@ use mathlib.Core.List.{List, [], _∷_, _++_}
 use Prim.Native.Nat.{ℕ, _+_, _/_, _%_, _*_, _^_, _<_, _≤_}
 use native.Mathlib.Nat.{mod-lt}
 use native.Mathlib.Numerals.{add-one}
+use native.Mathlib.Omega.{arith}
 use lib.Dec.{lit<}
 use lib.Pow.{pow-pos, shr-lt, split}
 use lib.Bits.{bitXor, xor-self, xor-shifted}
@@ -29,12 +30,21 @@ crc16-append a b = crcFrom-append 0xffff a b
 pub crc16-split : (i : ℕ) (s : List ℕ) → crc16 s ≡ crcFrom (crc16 (take i s)) (drop i s)
 crc16-split i s = ap crc16 (sym (take-append-drop i s)) ∙ crc16-append (take i s) (drop i s)
 
--- ---- a run from a place on: its first byte is taken, or there is none
+-- ---- a run from a place on: its first byte is taken, or its first two, or there is none
 
 pub crcFrom-next : (r i o : ℕ) (s : List ℕ) → i < length s → o ≡ byte r (getD s i 0)
     → crcFrom o (drop (i + 1) s) ≡ crcFrom r (drop i s)
 unfolding crcFrom
 crcFrom-next r i o s h e = rw (e, add-one, drop-cons s i 0)
+
+-- its first two
+pub crcFrom-pair : (r i o : ℕ) (s : List ℕ) → i + 1 < length s → o ≡ byte (byte r (getD s i 0)) (getD s (i + 1) 0)
+    → crcFrom o (drop (i + 2) s) ≡ crcFrom r (drop i s)
+crcFrom-pair r i o s h e =
+    let two : i + 2 ≡ i + 1 + 1 = omega arith in
+    ap (λ (k : ℕ). crcFrom o (drop k s)) two
+    ∙ crcFrom-next (byte r (getD s i 0)) (i + 1) o s h e
+    ∙ crcFrom-next r i (byte r (getD s i 0)) s (omega arith) refl
 
 pub crcFrom-end : (r i : ℕ) (s : List ℕ) → length s ≤ i → crcFrom r (drop i s) ≡ r
 unfolding crcFrom

@@ -49,6 +49,10 @@ xor-assoc a =
     ∙ sym (xor-step n (bitXor b c)))
     a
 
+-- the last two of three change places
+pub xor-swap : (a b c : ℕ) → bitXor (bitXor a b) c ≡ bitXor (bitXor a c) b
+xor-swap a b c = xor-assoc a b c ∙ ap (bitXor a) (xor-comm b c) ∙ sym (xor-assoc a c b)
+
 -- two sums of two, regrouped
 pub xor-four : (a b c d : ℕ) → bitXor (bitXor a b) (bitXor c d) ≡ bitXor (bitXor a c) (bitXor b d)
 xor-four a b c d =

@@ -1,4 +1,5 @@
--- What a table of 256 registers holds. The code's table is `entries 8`: the checker computes it, so no proof repeats the table.
+-- What a table of 256 registers holds. The code's two tables are `entries 8` and `entries 16`: the checker computes them, so no
+-- proof repeats a table.
 -- Assumes nothing.
 use Prim.Native.Nat.{ℕ, zero, suc, _*_, _^_}
 use mathlib.Core.List.{List, [], _∷_}

@@ -1,7 +1,7 @@
-// The checksum of an entry: CRC-16/IBM-3740, a byte a step by a table of 256.
+// The checksum of an entry: CRC-16/IBM-3740, two bytes a step by two tables of 256.
 //
 // Both public functions take any bytes and any state. What they answer is `crcFrom` and `crc16` of
-// specs/Catalogue.antt, and nothing above this crate sees that there is a table.
+// specs/Catalogue.antt, and nothing above this crate sees that there are tables.
 ghost use mathlib.Core.Path.{_≡_};
 ghost use Rattle.checksum.specs.Catalogue.{byte, crcFrom, crc16};
 ghost use Rattle.checksum.specs.Table.{entries};
@@ -266,6 +266,266 @@ const TABLE: [u16; 256] = [
     0x1ef0,
 ];
 
+// At place k: the register after the byte k and a byte of zeros, from a register of zeros.
+const SECOND_TABLE: [u16; 256] = [
+    0x0000,
+    0x3331,
+    0x6662,
+    0x5553,
+    0xccc4,
+    0xfff5,
+    0xaaa6,
+    0x9997,
+    0x89a9,
+    0xba98,
+    0xefcb,
+    0xdcfa,
+    0x456d,
+    0x765c,
+    0x230f,
+    0x103e,
+    0x0373,
+    0x3042,
+    0x6511,
+    0x5620,
+    0xcfb7,
+    0xfc86,
+    0xa9d5,
+    0x9ae4,
+    0x8ada,
+    0xb9eb,
+    0xecb8,
+    0xdf89,
+    0x461e,
+    0x752f,
+    0x207c,
+    0x134d,
+    0x06e6,
+    0x35d7,
+    0x6084,
+    0x53b5,
+    0xca22,
+    0xf913,
+    0xac40,
+    0x9f71,
+    0x8f4f,
+    0xbc7e,
+    0xe92d,
+    0xda1c,
+    0x438b,
+    0x70ba,
+    0x25e9,
+    0x16d8,
+    0x0595,
+    0x36a4,
+    0x63f7,
+    0x50c6,
+    0xc951,
+    0xfa60,
+    0xaf33,
+    0x9c02,
+    0x8c3c,
+    0xbf0d,
+    0xea5e,
+    0xd96f,
+    0x40f8,
+    0x73c9,
+    0x269a,
+    0x15ab,
+    0x0dcc,
+    0x3efd,
+    0x6bae,
+    0x589f,
+    0xc108,
+    0xf239,
+    0xa76a,
+    0x945b,
+    0x8465,
+    0xb754,
+    0xe207,
+    0xd136,
+    0x48a1,
+    0x7b90,
+    0x2ec3,
+    0x1df2,
+    0x0ebf,
+    0x3d8e,
+    0x68dd,
+    0x5bec,
+    0xc27b,
+    0xf14a,
+    0xa419,
+    0x9728,
+    0x8716,
+    0xb427,
+    0xe174,
+    0xd245,
+    0x4bd2,
+    0x78e3,
+    0x2db0,
+    0x1e81,
+    0x0b2a,
+    0x381b,
+    0x6d48,
+    0x5e79,
+    0xc7ee,
+    0xf4df,
+    0xa18c,
+    0x92bd,
+    0x8283,
+    0xb1b2,
+    0xe4e1,
+    0xd7d0,
+    0x4e47,
+    0x7d76,
+    0x2825,
+    0x1b14,
+    0x0859,
+    0x3b68,
+    0x6e3b,
+    0x5d0a,
+    0xc49d,
+    0xf7ac,
+    0xa2ff,
+    0x91ce,
+    0x81f0,
+    0xb2c1,
+    0xe792,
+    0xd4a3,
+    0x4d34,
+    0x7e05,
+    0x2b56,
+    0x1867,
+    0x1b98,
+    0x28a9,
+    0x7dfa,
+    0x4ecb,
+    0xd75c,
+    0xe46d,
+    0xb13e,
+    0x820f,
+    0x9231,
+    0xa100,
+    0xf453,
+    0xc762,
+    0x5ef5,
+    0x6dc4,
+    0x3897,
+    0x0ba6,
+    0x18eb,
+    0x2bda,
+    0x7e89,
+    0x4db8,
+    0xd42f,
+    0xe71e,
+    0xb24d,
+    0x817c,
+    0x9142,
+    0xa273,
+    0xf720,
+    0xc411,
+    0x5d86,
+    0x6eb7,
+    0x3be4,
+    0x08d5,
+    0x1d7e,
+    0x2e4f,
+    0x7b1c,
+    0x482d,
+    0xd1ba,
+    0xe28b,
+    0xb7d8,
+    0x84e9,
+    0x94d7,
+    0xa7e6,
+    0xf2b5,
+    0xc184,
+    0x5813,
+    0x6b22,
+    0x3e71,
+    0x0d40,
+    0x1e0d,
+    0x2d3c,
+    0x786f,
+    0x4b5e,
+    0xd2c9,
+    0xe1f8,
+    0xb4ab,
+    0x879a,
+    0x97a4,
+    0xa495,
+    0xf1c6,
+    0xc2f7,
+    0x5b60,
+    0x6851,
+    0x3d02,
+    0x0e33,
+    0x1654,
+    0x2565,
+    0x7036,
+    0x4307,
+    0xda90,
+    0xe9a1,
+    0xbcf2,
+    0x8fc3,
+    0x9ffd,
+    0xaccc,
+    0xf99f,
+    0xcaae,
+    0x5339,
+    0x6008,
+    0x355b,
+    0x066a,
+    0x1527,
+    0x2616,
+    0x7345,
+    0x4074,
+    0xd9e3,
+    0xead2,
+    0xbf81,
+    0x8cb0,
+    0x9c8e,
+    0xafbf,
+    0xfaec,
+    0xc9dd,
+    0x504a,
+    0x637b,
+    0x3628,
+    0x0519,
+    0x10b2,
+    0x2383,
+    0x76d0,
+    0x45e1,
+    0xdc76,
+    0xef47,
+    0xba14,
+    0x8925,
+    0x991b,
+    0xaa2a,
+    0xff79,
+    0xcc48,
+    0x55df,
+    0x66ee,
+    0x33bd,
+    0x008c,
+    0x13c1,
+    0x20f0,
+    0x75a3,
+    0x4692,
+    0xdf05,
+    0xec34,
+    0xb967,
+    0x8a56,
+    0x9a68,
+    0xa959,
+    0xfc0a,
+    0xcf3b,
+    0x56ac,
+    0x659d,
+    0x30ce,
+    0x03ff,
+];
+
 // The register after one byte. The byte and the register's upper half meet in the eight bits that
 // leave, and the table knows what these bring; the lower half only moves up.
 fn step_byte(table: &[u16; 256], state: u16, b: u8) -> u16
@@ -275,27 +535,41 @@ fn step_byte(table: &[u16; 256], state: u16, b: u8) -> u16
     (state << 8) ^ table[((state >> 8) ^ (b as u16)) as usize]
 }
 
-// The register after a run of bytes.
-fn run(table: &[u16; 256], state: u16, bytes: &[u8]) -> u16
-    requires { ⌜ now table ≡ entries 8 ⌝ }
+// The register after two bytes. The first byte meets the register's upper half, and sixteen bits take
+// the two to the second table's entry. The second byte meets the lower half, which the first eight bits
+// only move up, and the other eight take the two to the first table's entry.
+fn step_pair(table: &[u16; 256], second: &[u16; 256], state: u16, a: u8, b: u8) -> u16
+    requires { ⌜ (now table ≡ entries 8) × (now second ≡ entries 16) ⌝ }
+    ensures { λ r. ⌜ r ≡ byte (byte state a) b ⌝ }
+{
+    second[((state >> 8) ^ (a as u16)) as usize] ^ table[((state % 256) ^ (b as u16)) as usize]
+}
+
+// The register after a run of bytes: two at a time, and where their number is odd the last by itself.
+fn run(table: &[u16; 256], second: &[u16; 256], state: u16, bytes: &[u8]) -> u16
+    requires { ⌜ (now table ≡ entries 8) × (now second ≡ entries 16) ⌝ }
     ensures { λ r. ⌜ r ≡ crcFrom state (now (bytes .entry)) ⌝ }
 {
     let mut r = state;
     let mut i = 0;
-    while i < bytes.len() {
-        r = step_byte(table, r, bytes[i]);
-        i += 1;
+    while i + 1 < bytes.len() {
+        r = step_pair(table, second, r, bytes[i], bytes[i + 1]);
+        i += 2;
+    }
+    if i < bytes.len() {
+        return step_byte(table, r, bytes[i]);
     }
     r
 }
 
-// The sum of a run that goes on: `update(hash(a), b)` is the hash of a with b after it. The table is
+// The sum of a run that goes on: `update(hash(a), b)` is the hash of a with b after it. The tables are
 // copied to the stack once a call, because an index into a constant would build it at each index.
 pub fn update(state: u16, bytes: &[u8]) -> u16
     ensures { λ r. ⌜ r ≡ crcFrom state (now (bytes .entry)) ⌝ }
 {
     let table = TABLE;
-    run(&table, state, bytes)
+    let second = SECOND_TABLE;
+    run(&table, &second, state, bytes)
 }
 
 // The sum of a run of bytes.

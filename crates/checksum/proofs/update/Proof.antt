@@ -1,4 +1,4 @@
--- `checksum::update` meets its contract. The checker computes the table by its rule, and finds the code's.
+-- `checksum::update` meets its contract. The checker computes both tables by their one rule, and finds the code's.
 -- Assumes nothing.
 use mathlib.Core.Path.{refl}
 use borrow.Author.Needs.{needs}
@@ -9,7 +9,7 @@ use Rattle.checksum.proofs.update.Tie as tie
 
 run-requires : tie.Need-run-requires
 unfolding entries tabulate steps step taken
-run-requires c κs = refl
+run-requires c κs = (refl, refl)
 
 returns : tie.Need-returns
 returns c = search needs

@@ -1,0 +1,218 @@
+// Measures two builds of the library in turns: the checksum alone, durable end, appends. bench/before builds and runs this,
+// with the paths of both builds and the number of rounds. Prints a line for each case, and ends with status 1 if the two
+// ever give different sums, ends or bytes.
+#define _POSIX_C_SOURCE 199309L
+#include <dlfcn.h>
+#include <stdio.h>
+#include <stdlib.h>
+#include <string.h>
+#include <time.h>
+
+#include "locker_log.h"
+
+enum { REGION = 268435456, LONGEST_RUN = 67108864, MOST_SUMS = 5000000, MOST_APPENDS = 200000, ROOM_FOR_APPENDS = 67108864 };
+
+// What is called of a build. Calls go through these pointers, so the compiler can neither merge nor skip them.
+struct side {
+    uint16_t (*hash)(const uint8_t *, size_t);
+    uint32_t (*append_data)(uint8_t *, size_t, size_t, uint64_t, uint64_t, const uint8_t *, size_t, const uint8_t *, size_t, uint64_t *);
+    uint32_t (*append_tombstone)(uint8_t *, size_t, size_t, uint64_t, const uint8_t *, size_t, uint64_t *);
+    uint32_t (*durable_end)(const uint8_t *, size_t, size_t, uint64_t *, uint64_t *);
+};
+
+enum { EARLIER, TODAY, SIDES };
+static struct side sides[SIDES];
+static int rounds;
+static bool same = true;
+
+static void fail(const char *what)
+{
+    fprintf(stderr, "before: %s\n", what);
+    exit(1);
+}
+
+static void *found(void *library, const char *name)
+{
+    void *function = dlsym(library, name);
+    if (!function)
+        fail(dlerror());
+    return function;
+}
+
+static struct side loaded(const char *path)
+{
+    void *library = dlopen(path, RTLD_NOW | RTLD_LOCAL);
+    if (!library)
+        fail(dlerror());
+    struct side side;
+    *(void **)&side.hash = found(library, "locker_hash");
+    *(void **)&side.append_data = found(library, "locker_append_data");
+    *(void **)&side.append_tombstone = found(library, "locker_append_tombstone");
+    *(void **)&side.durable_end = found(library, "locker_durable_end");
+    return side;
+}
+
+static double now(void)
+{
+    struct timespec t;
+    clock_gettime(CLOCK_MONOTONIC, &t);
+    return (double)t.tv_sec + (double)t.tv_nsec / 1e9;
+}
+
+static void fill(uint8_t *bytes, size_t length)
+{
+    uint32_t seed = 1;
+    for (size_t i = 0; i < length; i++) {
+        seed = seed * 1664525 + 1013904223;
+        bytes[i] = (uint8_t)(seed >> 24);
+    }
+}
+
+// ---- a case: how much it is, how long each side took at best, and whether both answered alike
+
+struct best {
+    double seconds[SIDES];
+    uint64_t answer[SIDES];
+};
+
+typedef uint64_t measured_fn(const struct side *side, const void *what);
+
+static struct best in_turns(measured_fn *measured, const void *what)
+{
+    struct best best = {{1e9, 1e9}, {0, 0}};
+    for (int round = 0; round < rounds; round++)
+        for (int i = 0; i < SIDES; i++) {
+            double began = now();
+            best.answer[i] = measured(&sides[i], what);
+            double took = now() - began;
+            if (took < best.seconds[i])
+                best.seconds[i] = took;
+        }
+    return best;
+}
+
+static void report(const char *name, size_t size, double bytes, double calls, struct best best)
+{
+    bool alike = best.answer[EARLIER] == best.answer[TODAY];
+    same &= alike;
+    printf("%-12s %10zu", name, size);
+    for (int i = 0; i < SIDES; i++)
+        printf("  %6.0f MB/s %13.1f ns", bytes / best.seconds[i] / 1e6, best.seconds[i] / calls * 1e9);
+    printf("  %5.2f x  %s\n", best.seconds[EARLIER] / best.seconds[TODAY], alike ? "alike" : "DIFFER");
+    fflush(stdout);
+}
+
+// ---- the checksum alone
+
+struct run {
+    const uint8_t *bytes;
+    size_t length, calls;
+};
+
+static uint64_t sums(const struct side *side, const void *what)
+{
+    const struct run *run = what;
+    uint64_t sum = 0;
+    for (size_t i = 0; i < run->calls; i++)
+        sum = sum * 31 + side->hash(run->bytes + i % 2, run->length);
+    return sum;
+}
+
+static void measure_sums(const uint8_t *bytes, size_t length)
+{
+    struct run run = {bytes, length, MOST_SUMS};
+    if (length > LONGEST_RUN / MOST_SUMS)
+        run.calls = LONGEST_RUN / length;
+    report("checksum", length, (double)length * (double)run.calls, (double)run.calls, in_turns(sums, &run));
+}
+
+// ---- entries: appended one after the other to a region, and the region's durable end
+
+struct log {
+    uint8_t *region;
+    const uint8_t *bytes;
+    size_t capacity, klen, vlen, size, count;
+};
+
+// An entry of 16 bytes is a tombstone, any other data; neighbours have different keys and values.
+static uint64_t appended(const struct side *side, const void *what)
+{
+    const struct log *log = what;
+    uint64_t used = 0;
+    for (size_t i = 0; i < log->count; i++) {
+        const uint8_t *key = log->bytes + i % 4096, *value = key + 4096;
+        uint32_t refused =
+            log->vlen ? side->append_data(log->region, log->capacity, used, LOCKER_INSERT, 1, key, log->klen, value, log->vlen, &used)
+                      : side->append_tombstone(log->region, log->capacity, used, 1, key, log->klen, &used);
+        if (refused)
+            fail("an append was refused");
+    }
+    return used;
+}
+
+static uint64_t ended(const struct side *side, const void *what)
+{
+    const struct log *log = what;
+    uint64_t end = 0, place = 0;
+    if (side->durable_end(log->region, log->capacity, log->size * log->count, &end, &place))
+        fail("a durable end was refused");
+    return end;
+}
+
+static void measure_entries(struct log log, size_t length)
+{
+    log.size = (length + 15) / 16 * 16;
+    log.count = REGION / log.size;
+    memset(log.region, 0, REGION);
+    if (appended(&sides[TODAY], &log) != log.size * log.count)
+        fail("the entries don't have the size that was meant");
+    report("durable end", length, (double)log.size * (double)log.count, (double)log.count, in_turns(ended, &log));
+}
+
+// Where the appends ended, with a sum over all bytes that they wrote: one checksum serves for both sides.
+static uint64_t written(const struct side *side, const struct log *log)
+{
+    memset(log->region, 0, ROOM_FOR_APPENDS);
+    uint64_t used = appended(side, log);
+    return used * 65536 + sides[TODAY].hash(log->region, used);
+}
+
+static void measure_appends(struct log log, size_t length)
+{
+    log.size = (length + 15) / 16 * 16;
+    log.count = ROOM_FOR_APPENDS / log.size < MOST_APPENDS ? ROOM_FOR_APPENDS / log.size : MOST_APPENDS;
+    struct best best = in_turns(appended, &log);
+    for (int i = 0; i < SIDES; i++)
+        best.answer[i] = written(&sides[i], &log);
+    report("append", length, (double)log.size * (double)log.count, (double)log.count, best);
+}
+
+int main(int argc, char **argv)
+{
+    static const size_t lengths[] = {0, 6, 13, 4096, LONGEST_RUN};
+    static const struct {
+        size_t length, klen, vlen;
+    } entries[] = {{16, 8, 0}, {32, 8, 14}, {4096, 16, 4070}, {36874, 4096, 32768}};
+    if (argc != 4)
+        fail("takes two libraries and the number of rounds");
+    sides[EARLIER] = loaded(argv[1]);
+    sides[TODAY] = loaded(argv[2]);
+    rounds = atoi(argv[3]);
+
+    uint8_t *region = malloc(REGION), *bytes = malloc(LONGEST_RUN + 1);
+    if (!region || !bytes)
+        fail("no room for a region of 268,435,456 bytes and a run of 67,108,864");
+    fill(bytes, LONGEST_RUN + 1);
+    struct log log = {.region = region, .bytes = bytes, .capacity = REGION};
+
+    printf("%-12s %10s  %27s  %27s  %7s  %s\n", "", "bytes", "earlier, each", "today, each", "faster", "answers");
+    for (size_t i = 0; i < sizeof lengths / sizeof *lengths; i++)
+        measure_sums(bytes, lengths[i]);
+    for (size_t i = 0; i < sizeof entries / sizeof *entries; i++) {
+        log.klen = entries[i].klen;
+        log.vlen = entries[i].vlen;
+        measure_entries(log, entries[i].length);
+        measure_appends(log, entries[i].length);
+    }
+    return same ? 0 : 1;
+}
