@@ -133,7 +133,13 @@ static void try_hash(void) {
         uint8_t one = (uint8_t)byte;
         CHECK(locker_hash(&one, 1) == plain_sum(0xffff, &one, 1));
     }
+    /* every entry of both tables, each byte beside every other */
+    for (unsigned pair = 0; pair < 65536; pair++) {
+        uint8_t two[2] = {(uint8_t)(pair >> 8), (uint8_t)pair};
+        CHECK(locker_hash(two, 2) == plain_sum(0xffff, two, 2));
+    }
     CHECK(locker_hash(big, 1 << 20) == plain_sum(0xffff, big, 1 << 20));
+    CHECK(locker_hash(big, (1 << 20) - 1) == plain_sum(0xffff, big, (1 << 20) - 1));
     CHECK(memcmp(kept, bytes, sizeof bytes) == 0);
     free(kept);
 }

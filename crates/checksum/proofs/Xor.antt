@@ -56,9 +56,9 @@ xor-swap a b c = xor-assoc a b c ∙ ap (bitXor a) (xor-comm b c) ∙ sym (xor-a
 -- two sums of two, regrouped
 pub xor-four : (a b c d : ℕ) → bitXor (bitXor a b) (bitXor c d) ≡ bitXor (bitXor a c) (bitXor b d)
 xor-four a b c d =
-    xor-assoc a b (bitXor c d)
-    ∙ ap (bitXor a) (sym (xor-assoc b c d) ∙ ap (λ (x : ℕ). bitXor x d) (xor-comm b c) ∙ xor-assoc c b d)
-    ∙ sym (xor-assoc a c (bitXor b d))
+    sym (xor-assoc (bitXor a b) c d)
+    ∙ ap (λ (x : ℕ). bitXor x d) (xor-swap a b c)
+    ∙ xor-assoc (bitXor a c) b d
 
 -- what is added twice falls out
 pub xor-twice : (a b : ℕ) → bitXor (bitXor a b) b ≡ a
