@@ -156,6 +156,8 @@ static uint64_t ended(const struct side *side, const void *what)
     uint64_t end = 0, place = 0;
     if (side->durable_end(log->region, log->capacity, log->size * log->count, &end, &place))
         fail("a durable end was refused");
+    if (end != log->size * log->count)
+        fail("a durable end isn't the last entry's");
     return end;
 }
 
