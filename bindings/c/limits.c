@@ -47,7 +47,7 @@ static void check(bool held, const char *claim, int line) {
 
 #define largest ((size_t)LOCKER_LARGEST_REGION)
 
-/* A region of one byte more than the largest, all zeros: only the pages that are written to take memory. */
+/* A region of one byte more than the largest, all zeros before and after each test. */
 static uint8_t *big;
 
 static bool all_are(const uint8_t *bytes, size_t length, uint8_t byte) {
@@ -138,8 +138,14 @@ static void try_hash(void) {
         uint8_t two[2] = {(uint8_t)(pair >> 8), (uint8_t)pair};
         CHECK(locker_hash(two, 2) == plain_sum(0xffff, two, 2));
     }
-    CHECK(locker_hash(big, 1 << 20) == plain_sum(0xffff, big, 1 << 20));
-    CHECK(locker_hash(big, (1 << 20) - 1) == plain_sum(0xffff, big, (1 << 20) - 1));
+    /* the largest region, one byte less and one more, with all bytes in it */
+    for (size_t i = 0; i <= largest; i++) big[i] = (uint8_t)(i * 37 + i / 256);
+    uint16_t sum = plain_sum(0xffff, big, largest - 1);
+    for (size_t length = largest - 1; length <= largest + 1; length++) {
+        CHECK(locker_hash(big, length) == sum);
+        sum = plain_sum(sum, big + length, length <= largest);
+    }
+    memset(big, 0, largest + 1);
     CHECK(memcmp(kept, bytes, sizeof bytes) == 0);
     free(kept);
 }

@@ -120,10 +120,10 @@ two-bytes r a b hr ha hb =
     ap (λ (y : ℕ). steps 8 (bitXor (steps 8 x) y)) (sym (low-byte b hb))
     ∙ ap (steps 8) (sym (steps-xor 8 x b (added-lt r a hr ha) (omega arith)))
 
--- ---- two bytes a step: the second's place in the table is the register's lower half with that byte added to it
+-- ---- two bytes a step: the second byte's place is the register's lower half with that byte added to it
 
-pub second-place-lt : (r b : ℕ) → b < 2 ^ 8 → bitXor (r % 2 ^ 8) b < 2 ^ 8
-second-place-lt r b hb = xor-lt 8 (r % 2 ^ 8) b (mod-lt r (pow-pos 8)) hb
+pub lower-place-lt : (r b : ℕ) → b < 2 ^ 8 → bitXor (r % 2 ^ 8) b < 2 ^ 8
+lower-place-lt r b hb = xor-lt 8 (r % 2 ^ 8) b (mod-lt r (pow-pos 8)) hb
 
 pub pair-by-places : (r a b : ℕ) → r < 2 ^ 16 → a < 2 ^ 8 → b < 2 ^ 8
     → byte (byte r a) b ≡ bitXor (steps 16 (bitXor (r / 2 ^ 8) a * 2 ^ 8)) (steps 8 (bitXor (r % 2 ^ 8) b * 2 ^ 8))
@@ -132,7 +132,7 @@ pair-by-places r a b hr ha hb =
     let up : ℕ = bitXor (r / 2 ^ 8) a in
     let low : ℕ = bitXor (r % 2 ^ 8) b in
     let hu : up < 2 ^ 8 = place-lt r a hr ha in
-    let hl : low < 2 ^ 8 = second-place-lt r b hb in
+    let hl : low < 2 ^ 8 = lower-place-lt r b hb in
     let added : bitXor (bitXor r (a * 2 ^ 8)) b ≡ bitXor low (up * 2 ^ 8) =
     ap (λ (x : ℕ). bitXor x b) (halves r a) ∙ xor-swap (r % 2 ^ 8) (up * 2 ^ 8) b in
     two-bytes r a b hr ha hb
