@@ -1,6 +1,6 @@
-// Measures two builds of the library in turns: the checksum alone, durable end, appends. bench/before builds and runs this,
-// with the paths of both builds and the number of rounds. Prints a line for each case, and ends with status 1 if the two
-// ever give different sums, ends or bytes.
+// Measures two builds of the library in turns: the checksum alone, durable end, reads at a place, appends. bench/before
+// builds and runs this, with the paths of both builds and the number of rounds. Prints a line for each case, and ends with
+// status 1 if the two ever give different sums, ends, entries or bytes.
 #define _POSIX_C_SOURCE 199309L
 #include <dlfcn.h>
 #include <stdio.h>
@@ -18,6 +18,7 @@ struct side {
     uint32_t (*append_data)(uint8_t *, size_t, size_t, uint64_t, uint64_t, const uint8_t *, size_t, const uint8_t *, size_t, uint64_t *);
     uint32_t (*append_tombstone)(uint8_t *, size_t, size_t, uint64_t, const uint8_t *, size_t, uint64_t *);
     uint32_t (*durable_end)(const uint8_t *, size_t, size_t, uint64_t *, uint64_t *);
+    uint32_t (*read_at)(const uint8_t *, size_t, size_t, size_t, struct locker_entry *);
 };
 
 enum { EARLIER, TODAY, SIDES };
@@ -49,6 +50,7 @@ static struct side loaded(const char *path)
     *(void **)&side.append_data = found(library, "locker_append_data");
     *(void **)&side.append_tombstone = found(library, "locker_append_tombstone");
     *(void **)&side.durable_end = found(library, "locker_durable_end");
+    *(void **)&side.read_at = found(library, "locker_read_at");
     return side;
 }
 
@@ -126,7 +128,7 @@ static void measure_sums(const uint8_t *bytes, size_t length)
     report("checksum", length, (double)length * (double)run.calls, (double)run.calls, in_turns(sums, &run));
 }
 
-// ---- entries: appended one after the other to a region, and the region's durable end
+// ---- entries: appended one after the other to a region, the region's durable end, and each entry read at its place
 
 struct log {
     uint8_t *region;
@@ -161,6 +163,20 @@ static uint64_t ended(const struct side *side, const void *what)
     return end;
 }
 
+// The entries are inserts, which every build tells as such.
+static uint64_t read_all(const struct side *side, const void *what)
+{
+    const struct log *log = what;
+    uint64_t told = 0;
+    for (size_t i = 0; i < log->count; i++) {
+        struct locker_entry entry;
+        if (side->read_at(log->region, log->capacity, i * log->size, SIZE_MAX, &entry))
+            fail("a read was refused");
+        told = told * 31 + entry.kind + entry.kplace + entry.end;
+    }
+    return told;
+}
+
 static void measure_entries(struct log log, size_t length)
 {
     log.size = (length + 15) / 16 * 16;
@@ -169,6 +185,8 @@ static void measure_entries(struct log log, size_t length)
     if (appended(&sides[TODAY], &log) != log.size * log.count)
         fail("the entries don't have the size that was meant");
     report("durable end", length, (double)log.size * (double)log.count, (double)log.count, in_turns(ended, &log));
+    if (log.vlen)
+        report("read", length, (double)log.size * (double)log.count, (double)log.count, in_turns(read_all, &log));
 }
 
 // Where the appends ended, with a sum over all bytes that they wrote: one checksum serves for both sides.

@@ -195,8 +195,8 @@ uint32_t locker_write_header(uint8_t *lent, size_t length, uint64_t ordinal);
 
 /* ---- entries */
 
-/* The data entry at p, of which at most `hint` bytes are looked at; it is reported as an insert even if it is an
- * update. Refuses 3, 5, then 6, 7, 6, 8, 9. */
+/* The data entry at p, of which at most `hint` bytes are looked at. Its kind is the one that was written, insert or
+ * update, as locker_walk tells it. Refuses 3, 5, then 6, 7, 6, 8, 9. */
 uint32_t locker_read_at(const uint8_t *region, size_t length, size_t p, size_t hint, struct locker_entry *entry);
 
 /* Writes a data entry (kind 0 or 1) at the used count, fills up to the next line with 0xff and tells the new used

@@ -251,9 +251,9 @@ static void try_read_at(void) {
     put_sample(region);
     CHECK(read_at(region, 64, 0, SIZE_MAX, &entry) == LOCKER_ACCEPTED);
     CHECK(same_entry(entry, entry_at(0, 0, LOCKER_INSERT, 1, 2, 1)));
-    /* an update is told as an insert */
+    /* the type is the one that was written */
     CHECK(read_at(region, 64, 16, 64, &entry) == LOCKER_ACCEPTED);
-    CHECK(same_entry(entry, entry_at(16, 0, LOCKER_INSERT, 1, 2, 2)));
+    CHECK(same_entry(entry, entry_at(16, 0, LOCKER_UPDATE, 1, 2, 2)));
     /* 13 bytes are enough, whether the hint or the region ends them */
     for (size_t seen = 0; seen <= 20; seen++) {
         uint32_t wanted = seen < 13 ? LOCKER_ENTRY_TOO_SHORT : LOCKER_ACCEPTED;
@@ -284,7 +284,7 @@ static void try_read_at(void) {
         for (unsigned ns = 0; ns <= LOCKER_LAST_NAMESPACE; ns++) {
             size_t length = put_entry(wrong, 48, 0, kind, ns, (const uint8_t *)"k", 1, (const uint8_t *)"v", 1);
             CHECK(read_at(wrong, 64, 48, length, &entry) == (kind < 2 ? LOCKER_ACCEPTED : LOCKER_TYPE_NOT_ALLOWED));
-            if (kind < 2) CHECK(same_entry(entry, entry_at(48, 0, LOCKER_INSERT, ns, 1, 1)));
+            if (kind < 2) CHECK(same_entry(entry, entry_at(48, 0, kind, ns, 1, 1)));
             wrong[48 + length - 1] ^= 0x80;
             CHECK(read_at(wrong, 64, 48, length, &entry) == LOCKER_WRONG_CHECKSUM);
         }
@@ -295,10 +295,12 @@ static void try_read_at(void) {
     if (part == NULL || large == NULL) exit(2);
     for (size_t i = 0; i < sizeof lengths / sizeof *lengths; i++) {
         for (size_t j = 0; j < sizeof lengths / sizeof *lengths; j++) {
-            size_t length = put_entry(large, 16, 0, 0, 63, part, lengths[i], part, lengths[j]);
-            CHECK(read_at(large, 16 + length, 16, length, &entry) == LOCKER_ACCEPTED);
-            CHECK(same_entry(entry, entry_at(16, 0, LOCKER_INSERT, 63, lengths[i], lengths[j])));
-            CHECK(read_at(large, 16 + length - 1, 16, length, &entry) == LOCKER_ENTRY_TOO_SHORT);
+            for (unsigned kind = LOCKER_INSERT; kind <= LOCKER_UPDATE; kind++) {
+                size_t length = put_entry(large, 16, 0, kind, 63, part, lengths[i], part, lengths[j]);
+                CHECK(read_at(large, 16 + length, 16, length, &entry) == LOCKER_ACCEPTED);
+                CHECK(same_entry(entry, entry_at(16, 0, kind, 63, lengths[i], lengths[j])));
+                CHECK(read_at(large, 16 + length - 1, 16, length, &entry) == LOCKER_ENTRY_TOO_SHORT);
+            }
         }
     }
     free(part);
@@ -308,7 +310,7 @@ static void try_read_at(void) {
     size_t length = put_entry(big, last, 0, 1, 5, (const uint8_t *)"edge", 4, (const uint8_t *)"56", 2);
     CHECK(length == 16);
     CHECK(read_at(big, largest, last, SIZE_MAX, &entry) == LOCKER_ACCEPTED);
-    CHECK(same_entry(entry, entry_at(last, 0, LOCKER_INSERT, 5, 4, 2)));
+    CHECK(same_entry(entry, entry_at(last, 0, LOCKER_UPDATE, 5, 4, 2)));
     CHECK(read_at(big, largest - 1, last, SIZE_MAX, &entry) == LOCKER_ENTRY_TOO_SHORT);
     CHECK(read_at(big, largest + 1, last, SIZE_MAX, &entry) == LOCKER_REGION_TOO_LARGE);
     CHECK(read_at(big, largest + 1, 1, 0, &entry) == LOCKER_REGION_TOO_LARGE);

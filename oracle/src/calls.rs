@@ -145,7 +145,7 @@ pub const OPERATIONS: &[Operation] = &[
     Operation { name: "checksum, continued", answers: &["sum"] },
     Operation { name: "header reader", answers: &["ordinal", "1", "2"] },
     Operation { name: "header writer", answers: &["written", "1"] },
-    Operation { name: "read at a place", answers: &["data", "3", "5", "6", "7", "8", "9"] },
+    Operation { name: "read at a place", answers: &["insert", "update", "3", "5", "6", "7", "8", "9"] },
     Operation { name: "append data", answers: &["used", "3", "5", "9", "17", "11", "12", "13"] },
     Operation { name: "append tombstone", answers: &["used", "3", "5", "17", "11", "13"] },
     Operation { name: "walk", answers: &["insert", "update", "tombstone", "End", "3", "4", "10"] },
@@ -204,6 +204,13 @@ impl Call {
         }
         let first = said.values.first().copied();
         let name = match self {
+            Call::ReadAt { .. } => {
+                if said.values.get(1) == Some(&0) {
+                    "insert"
+                } else {
+                    "update"
+                }
+            }
             Call::Walk { .. } => match (first, said.values.get(2)) {
                 (Some(1), Some(0)) => "insert",
                 (Some(1), Some(1)) => "update",

@@ -1,5 +1,6 @@
-//! What the original says to a call, put into document 01's words. Where document 01 says otherwise (docs/DIFFERENCES.md)
-//! the original is asked all the same, has to do what the list says it does, and the parting is counted by its name.
+//! What the original says to a call, put into document 01's words. Where document 01 or a request of document 02 says
+//! otherwise (docs/DIFFERENCES.md) the original is asked all the same, has to do what the list says it does, and the parting
+//! is counted by its name.
 use std::{
     fs,
     io::ErrorKind,
@@ -36,6 +37,9 @@ fn parted(said: Said, name: &'static str) -> Judgement {
 
 /// Sizes that the original is asked with: it would fill a buffer of the hint's size before it reads, and can't get more.
 const LARGEST_HINT: u64 = 1 << 20;
+
+/// Document 02's request 4: the one parting of a read that both sides accept.
+pub const UPDATE_READ: &str = "read: an update (told as an insert)";
 
 /// How much the original's walk reads at once.
 const READ_BUFFER: u64 = 128 * 1024;
@@ -546,7 +550,7 @@ fn read_at(file: &File, total: u64, place: u64, hint: u64) -> Judgement {
     }
     if unallocated {
         let all = file.read_at(place, LARGEST_HINT as usize);
-        let said = if past_files(place, LARGEST_HINT) { Said::refused(6) } else { read_said(all)? };
+        let said = if past_files(place, LARGEST_HINT) { Said::refused(6) } else { read_said(file, all)? };
         return parted(said, "read: hint over 2^63 - 1 (capacity overflow)");
     }
     if past_files(place, asked) {
@@ -557,14 +561,26 @@ fn read_at(file: &File, total: u64, place: u64, hint: u64) -> Judgement {
             other => Err(format!("the system was to refuse the place, and the original gave {other:?}")),
         };
     }
-    same(read_said(answer)?)
+    let said = read_said(file, answer)?;
+    if said.values.get(1) == Some(&1) {
+        return parted(said, UPDATE_READ);
+    }
+    same(said)
 }
 
-fn read_said(answer: Result<Found, Failure>) -> Result<Said, String> {
-    Ok(match answer {
-        Ok(found) => Said { values: entry_values(&found).to_vec(), bytes: entry_bytes(&found), ..Default::default() },
-        Err(failure) => Said::refused(number_of(&failure)?),
-    })
+/// What the original reads, with the type that its word says. The original itself tells every entry as an insert, and is
+/// held to that.
+fn read_said(file: &File, answer: Result<Found, Failure>) -> Result<Said, String> {
+    let found = match answer {
+        Ok(found) => found,
+        Err(failure) => return Ok(Said::refused(number_of(&failure)?)),
+    };
+    let written = file.get(found.offset, 4)[3] >> 6;
+    if found.kind != 0 || written > 1 {
+        return Err(format!("the original was to tell data as an insert, and told type {written} as {}", found.kind));
+    }
+    let found = Found { kind: written.into(), ..found };
+    Ok(Said { values: entry_values(&found).to_vec(), bytes: entry_bytes(&found), ..Default::default() })
 }
 
 /// The original doesn't tell where it met type 3. It is the least line under whose bound it meets it.

@@ -219,39 +219,48 @@ fn telling(did: &str) -> u32 {
         "Ok(None)" | "Ok(0)" | "Err(Rotate)" => 1,
         _ if did.starts_with("Err(Said") => 1,
         _ if did.starts_with("Err(") => 2,
-        _ => 3,
+        _ => MOST_TELLING,
     }
+}
+
+const MOST_TELLING: u32 = 3;
+
+/// How many bytes a call is lent. Where the original goes on, it mostly read an entry, and that can't be made smaller byte
+/// by byte, since its checksum has to stay right: there the search begins with the smallest that was met.
+fn lent_bytes(call: &Call) -> usize {
+    call.parts().blobs.iter().map(calls::Region::len).sum()
 }
 
 /// Finds the smallest telling input of each parting, asks the original and the library, and tells what each does.
 fn differences(options: &Options) -> Result<bool, String> {
     let mut judge = Judge::new();
-    let mut first: BTreeMap<&'static str, (u32, Call)> = BTreeMap::new();
+    let mut least: BTreeMap<&'static str, (u32, usize, Call)> = BTreeMap::new();
     feed(options, options.calls.unwrap_or(500_000), |call| {
         let judged = judge.judge(call).ok()?;
         if let Some(name) = judged.parting {
-            let known = first.get(name).map(|(rank, _)| *rank);
-            if known.is_none_or(|rank| rank < 3) {
+            let bytes = lent_bytes(call);
+            let known = least.get(name).map(|(rank, bytes, _)| (*rank, *bytes));
+            if known.is_none_or(|(rank, least)| rank < MOST_TELLING || bytes < least) {
                 let rank = telling(&judge::explained(&mut judge, call));
-                if known.is_none_or(|known| known < rank) {
-                    first.insert(name, (rank, call.clone()));
+                if known.is_none_or(|(known, _)| known < rank || rank == MOST_TELLING) {
+                    least.insert(name, (rank, bytes, call.clone()));
                 }
             }
         }
         Some(judged.said)
     });
     let mut library = Library::new();
-    for (name, (rank, call)) in &first {
-        let least = shrink::shrink(call, |call| {
+    for (name, (rank, _, call)) in &least {
+        let smallest = shrink::shrink(call, |call| {
             let same = judge.judge(call).is_ok_and(|judged| judged.parting == Some(name));
             same && (*rank == 0 || telling(&judge::explained(&mut judge, call)) == *rank)
         });
         // All of a too large region is asked about once for each judge, so a fresh one is asked here.
-        let did = judge::explained(&mut Judge::new(), &least);
+        let did = judge::explained(&mut Judge::new(), &smallest);
         println!("{name}");
-        println!("  call          {}", brief(&least));
+        println!("  call          {}", brief(&smallest));
         println!("  the original  {did}");
-        println!("  here          {}", shown(&least, &library.say(&least)));
+        println!("  here          {}", shown(&smallest, &library.say(&smallest)));
     }
     Ok(true)
 }

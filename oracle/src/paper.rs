@@ -1,5 +1,5 @@
-//! Document 01 written out as a plain program: a third opinion, and the place where `oracle/awake` plants its slips. With
-//! no slip it has to agree with the original as the library does.
+//! Document 01 written out as a plain program, with document 02's request 4: a third opinion, and the place where
+//! `oracle/awake` plants its slips. With no slip it has to agree with the original as the library does.
 use crate::{
     calls::{eight, up16, Call, Region, Said, Slot, State, Step, HEADER, MAX_REGION},
     library::{listing, window, Side},
@@ -17,7 +17,7 @@ pub const SLIPS: &[(&str, &str)] = &[
     ("read-length-first", "read: the entry's length is checked before its mark"),
     ("read-hint-ignored", "read: the hint isn't kept to"),
     ("read-hint-off-by-one", "read: one byte more than the hint is looked at"),
-    ("read-type-told", "read: an update is told as an update"),
+    ("read-update-as-insert", "read: an update is told as an insert, as by the original"),
     ("read-line-late", "read: a place off a line gets 6 before 5"),
     ("read-swapped", "read: key length and value length are swapped"),
     ("append-fill-zero", "append: the filling is 0 instead of 0xff"),
@@ -196,7 +196,7 @@ impl Paper {
         if self.slips("read-swapped") {
             std::mem::swap(&mut klen, &mut vlen);
         }
-        let told = if self.slips("read-type-told") { kind } else { 0 };
+        let told = if self.slips("read-update-as-insert") { 0 } else { kind };
         let values = eight(place, told, u64::from(word >> 24 & 63), klen, vlen, place + length).to_vec();
         let middle = 8 + vlen as usize;
         let bytes = [&seen[middle..middle + klen as usize], &seen[8..middle]].concat();

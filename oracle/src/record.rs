@@ -7,7 +7,7 @@ use crate::{
     codec::{write_said, write_state, Record, Records},
     draw::{entry, fresh_state, Draw},
     fixed,
-    judge::Judge,
+    judge::{Judge, UPDATE_READ},
     library::Side,
     table::grouped,
 };
@@ -68,7 +68,7 @@ impl Recorder {
 
     fn write(&mut self, call: &Call, sparing: bool) {
         let Ok(judged) = self.judge.judge(call) else { return };
-        if judged.parting.is_some() {
+        if judged.parting.is_some_and(|name| name != UPDATE_READ) {
             return;
         }
         let mut bytes = Vec::new();

@@ -51,7 +51,7 @@ impl Table {
         }
         println!("{:<20} {:>11}", "all", grouped(self.calls));
         println!();
-        println!("{:>11}  partings outside document 01's domain, each as listed (what the original does)", "calls");
+        println!("{:>11}  partings, each as docs/DIFFERENCES.md lists it (what the original does)", "calls");
         for (name, count) in &self.partings {
             println!("{:>11}  {name}", grouped(*count));
         }

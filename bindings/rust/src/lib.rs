@@ -212,8 +212,8 @@ impl<'a> Region<'a> {
         Ok((found == 1).then_some(Entry { region: self, at }))
     }
 
-    /// The data entry at a place, of which at most `hint` bytes are looked at, reported as an insert. Refuses 3, 5, then
-    /// 6, 7, 6, 8, 9.
+    /// The data entry at a place, of which at most `hint` bytes are looked at. Its kind is the one that was written,
+    /// insert or update, as the walk tells it. Refuses 3, 5, then 6, 7, 6, 8, 9.
     pub fn read_at(self, place: usize, hint: usize) -> Result<Entry<'a>, Refusal> {
         let mut at = RawEntry::default();
         // SAFETY: one slice, and an entry of our own.

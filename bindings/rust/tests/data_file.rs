@@ -138,8 +138,15 @@ fn read_at_a_place() {
     let mut bytes = [0u8; 64];
     sample(&mut bytes);
     let region = Region::new(&bytes);
+    // a key's first code and the one that was issued anew are told apart, and as the listing tells them
+    let first = region.read_at(0, usize::MAX).unwrap();
+    assert_eq!((first.kind(), first.key(), first.value()), (Kind::Insert, &b"A7"[..], &b"9"[..]));
     let update = region.read_at(16, usize::MAX).unwrap();
-    assert_eq!((update.kind(), update.key(), update.value()), (Kind::Insert, &b"A7"[..], &b"10"[..]));
+    assert_eq!((update.kind(), update.key(), update.value()), (Kind::Update, &b"A7"[..], &b"10"[..]));
+    for (read, listed) in [first, update].into_iter().zip(region.listing(48)) {
+        let listed = listed.unwrap();
+        assert_eq!((read.offset(), read.kind(), read.end()), (listed.offset(), listed.kind(), listed.end()));
+    }
     assert!(region.read_at(0, 13).is_ok());
     assert_eq!(region.read_at(0, 12).unwrap_err(), Refusal::EntryTooShort);
     assert_eq!(region.read_at(0, 7).unwrap_err(), Refusal::EntryTooShort);

@@ -5,7 +5,7 @@ use mathlib.Core.Path.{_≡_, refl}
 use mathlib.Core.List.{List}
 use mathlib.Core.Bool.{Bool, true, false, _&&_}
 use native.Mathlib.Omega.{arith}
-use borrow.Author.Tests.{leb-true, ltb-true, ltb-false, eqb-true, le-leb, lt-ltb, eq-eqb}
+use borrow.Author.Tests.{leb-true, ltb-true, ltb-false, eqb-true, le-leb, lt-ltb, eq-eqb, ne-eqb}
 use lib.ListN.{length, take, drop}
 use lib.Dec.{ltb, eqb}
 use Rattle.answers.specs.Answers.{pickNumber}
@@ -54,6 +54,24 @@ entry-sum s p = placed-sum p _ _ _ _
 pub entry-long : (s : List ℕ) (p : ℕ) → p + 8 ≤ entryAt s p .end
 unfolding entryAt placed
 entry-long s p = let h = head-bounds (wordKind (field 4 s p)) in omega arith
+
+-- a data entry has all its fields in the data layout, and behind them its value, its key and its checksum
+pub data-entry : (s : List ℕ) (p : ℕ) → wordKind (field 4 s p) ≤ 1 → placed p (wordKind (field 4 s p)) (wordNamespace (field 4 s p)) (field 2 s (p + 4)) (field 2 s (p + 6)) ≡ entryAt s p
+unfolding entryAt
+data-entry s p h = simp (ne-eqb (wordKind (field 4 s p)) 2 (λ e. omega arith))
+
+pub data-sum : (s : List ℕ) (p : ℕ) → wordKind (field 4 s p) ≤ 1 → sumPlace (entryAt s p) ≡ p + (8 + field 2 s (p + 6) + field 2 s (p + 4))
+unfolding entryAt placed headLength
+data-sum s p h = simp (ne-eqb (wordKind (field 4 s p)) 2 (λ e. omega arith)) (omega arith)
+
+-- what it means that a checksum agrees
+pub agreed : (s : List ℕ) (from sum : ℕ) → agrees s from sum ≡ true → field 2 s sum ≡ crc16 (take (sum - from) (drop from s))
+unfolding agrees
+agreed s from sum h = eqb-true _ _ h
+
+pub agreeing : (s : List ℕ) (from sum : ℕ) → field 2 s sum ≡ crc16 (take (sum - from) (drop from s)) → agrees s from sum ≡ true
+unfolding agrees
+agreeing s from sum h = eq-eqb _ _ h
 
 -- "verifies", its facts one by one, and which entry it is
 pub record Verified (mark : ℕ → ℕ) (s : List ℕ) (p : ℕ) (e : Entry) : Type 0 where

@@ -1,4 +1,4 @@
--- Document 01, "Read at a place", over any mark rule.
+-- Document 01, "Read at a place", with document 02's request 4, over any mark rule.
 -- Assumes nothing.
 use Prim.Native.Nat.{ℕ, _+_, _-_, _%_, min}
 use mathlib.Core.List.{List, [], _∷_}
@@ -43,26 +43,26 @@ parseTests mark view =
 
 -- the fields of an entry that begins with the view's first byte, whatever its place
 pub record Fields : Type 0 where
+  pub kind : ℕ
   pub ns : ℕ
   pub klen : ℕ
   pub vlen : ℕ
 
+-- Document 02, request 4: "The read at a place shall report Insert or Update as the word says." Document 01's line, by which an update was told
+-- as an insert, is withdrawn
 abbrev pub fieldsOf : List ℕ → Fields
-fieldsOf view = record { ns = wordNamespace (field 4 view 0); klen = viewKlen view; vlen = viewVlen view }
+fieldsOf view = record { kind = wordKind (field 4 view 0); ns = wordNamespace (field 4 view 0); klen = viewKlen view; vlen = viewVlen view }
 
 unfoldable pub parseOf : ℕ → List ℕ → Said Fields
 parseOf mark view = unlessRefused (firstOf (parseTests mark view)) (accepted (fieldsOf view))
 
 abbrev pub saidParsed : Parsed → Said Fields
-saidParsed (parsed.Data ns klen vlen) = accepted (record { ns = ns; klen = klen; vlen = vlen })
+saidParsed (parsed.Data kind ns klen vlen) = accepted (record { kind = kind; ns = ns; klen = klen; vlen = vlen })
 saidParsed (parsed.Refused r) = refused (numberOf r) []
 
--- "The reported type is Insert even for an Update, as in the Rust.": the entry at p, type 0
-abbrev pub inserted : ℕ → Fields → Entry
-inserted p f = placed p 0 (f .ns) (f .klen) (f .vlen)
-
+-- the entry at p with these fields
 abbrev pub at : ℕ → Said Fields → Said Entry
-at p (accepted f) = accepted (inserted p f)
+at p (accepted f) = accepted (placed p (f .kind) (f .ns) (f .klen) (f .vlen))
 at p (refused n values) = refused n values
 
 -- "Read at a place 3, 5, then as above."

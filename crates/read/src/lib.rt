@@ -1,5 +1,6 @@
 // Document 01, "Read at a place": the data entry at a place, of which a hint says how many bytes to
-// look at. `read_at` is the public operation; the seeded one takes the mark's seed.
+// look at, with the type that was written (document 02, request 4). `read_at` is the public
+// operation; the seeded one takes the mark's seed.
 ghost use mathlib.Core.Path.{_≡_};
 ghost use Rattle.entry.specs.Words.{markFrom, version1};
 ghost use Rattle.read.specs.Reading.{viewOf, parseOf, saidParsed, readOf, said};
@@ -11,9 +12,9 @@ pub enum Reading {
     Refused(Refusal),
 }
 
-// What the parser finds, which sees offsets from zero: namespace, key length and value length.
+// What the parser finds, which sees offsets from zero: type, namespace, key length and value length.
 pub enum Parsed {
-    Data(u64, usize, usize),
+    Data(u64, u64, usize, usize),
     Refused(Refusal),
 }
 
@@ -37,10 +38,11 @@ fn parse(view: &[u8], mark: u64) -> Parsed
     if !entry::agrees(view, 0, sum) {
         return Parsed::Refused(Refusal::WrongChecksum);
     }
-    if entry::UPDATE < entry::word_kind(word) {
+    let kind = entry::word_kind(word);
+    if entry::UPDATE < kind {
         return Parsed::Refused(Refusal::TypeNotAllowed);
     }
-    Parsed::Data(entry::word_namespace(word), klen, vlen)
+    Parsed::Data(kind, entry::word_namespace(word), klen, vlen)
 }
 
 // The part of the region that is looked at.
@@ -69,18 +71,12 @@ pub fn seeded_read_at(region: &[u8], seed: u32, p: usize, hint: usize) -> Readin
     let view = view_of(region, p, hint);
     let parsed = parse(view, mark);
     match parsed {
-        Parsed::Data(ns, klen, vlen) => Reading::Data(entry::placed(
-            p,
-            entry::INSERT,
-            ns,
-            klen,
-            vlen,
-        )),
+        Parsed::Data(kind, ns, klen, vlen) => Reading::Data(entry::placed(p, kind, ns, klen, vlen)),
         Parsed::Refused(refusal) => Reading::Refused(refusal),
     }
 }
 
-// The data entry at p, reported as an insert. Refusals 3, 5, then 6, 7, 6, 8, 9.
+// The data entry at p, an insert or an update as its word says. Refusals 3, 5, then 6, 7, 6, 8, 9.
 pub fn read_at(region: &[u8], p: usize, hint: usize) -> Reading
     ensures { λ r. ⌜ said r ≡ readOf version1 (now (region .entry)) p hint ⌝ }
 {

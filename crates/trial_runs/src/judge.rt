@@ -164,16 +164,23 @@ fn same_entry(a: Entry, b: Entry) -> bool {
     a.end == b.end
 }
 
-pub fn found(answered: Entry, expected: Entry) {
+// An entry, and by which document it has to be that one.
+pub fn found_by(answered: Entry, expected: Entry, document: &[u8]) {
     write(b": ");
     write_entry(answered);
     if same_entry(answered, expected) {
-        write(b", as document 01\n");
+        write(b", as ");
+        write(document);
+        write(b"\n");
     } else {
         write(b", WRONG: ");
         write_entry(expected);
         write(b"\n");
     }
+}
+
+pub fn found(answered: Entry, expected: Entry) {
+    found_by(answered, expected, b"document 01");
 }
 
 // An answer that is none where an entry was expected, or the other way round.

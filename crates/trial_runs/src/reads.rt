@@ -1,5 +1,5 @@
 // The read at a place: refusals 5, 6, 7, 8 and 9, the data layout whatever the type, and the type
-// that it reports, which is insert even for an update.
+// that it reports, which is the one that was written.
 use crate::judge;
 use crate::judge::Said;
 use crate::sample;
@@ -23,13 +23,22 @@ pub fn none(region: &[u8], p: usize, hint: usize, expected: Said) {
 }
 
 // A read that finds a data entry.
-pub fn one(region: &[u8], p: usize, hint: usize, expected: Entry) {
+fn one_by(region: &[u8], p: usize, hint: usize, expected: Entry, document: &[u8]) {
     begin(region.len(), p, hint);
     let reading = read::read_at(region, p, hint);
     match reading {
-        Reading::Data(e) => judge::found(e, expected),
+        Reading::Data(e) => judge::found_by(e, expected, document),
         Reading::Refused(_) => judge::another_kind(),
     }
+}
+
+pub fn one(region: &[u8], p: usize, hint: usize, expected: Entry) {
+    one_by(region, p, hint, expected, b"document 01");
+}
+
+// The sample's update. That its type is told as it was written is document 02's request 4.
+fn updated(three: &[u8], hint: usize) {
+    one_by(three, 16, hint, sample::update(), b"request 4");
 }
 
 // The update has 14 bytes.
@@ -40,9 +49,9 @@ fn hints(three: &[u8]) {
     none(three, 16, 7, Said::Refused(6));
     none(three, 16, 8, Said::Refused(6));
     none(three, 16, 13, Said::Refused(6));
-    one(three, 16, 14, sample::update_as_insert());
-    one(three, 16, 15, sample::update_as_insert());
-    one(three, 16, 18446744073709551615, sample::update_as_insert());
+    updated(three, 14);
+    updated(three, 15);
+    updated(three, 18446744073709551615);
 }
 
 // At 48 the region ends. The tombstone's key stands where a data entry has its value's length, which

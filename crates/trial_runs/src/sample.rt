@@ -115,13 +115,6 @@ pub fn update() -> Entry {
     }
 }
 
-// As the read at a place reports it.
-pub fn update_as_insert() -> Entry {
-    let mut e = update();
-    e.kind = 0;
-    e
-}
-
 pub fn tombstone() -> Entry {
     Entry {
         offset: 32,

@@ -94,7 +94,7 @@ returns-6 c =
     let k = c .before .before in
     let view = at-start (k .before .before .before .before .before .before .before .before .before) .args .view .now in
     let plain : wordKind (field 4 view 0) ≤ 1 = rw (← kind-read k) (c .before .if5 .left) in
-    let read : fieldsOf view ≡ record { ns = c .word-namespace .result; klen = k .before .before .before .before .before .read16 .result; vlen = k .before .before .before .before .read162 .result } = cc in
+    let read : fieldsOf view ≡ record { kind = k .word-kind .result; ns = c .word-namespace .result; klen = k .before .before .before .before .before .read16 .result; vlen = k .before .before .before .before .read162 .result } = cc in
     sym (after4 (k .before) ∙ simp (le-ltb _ _ plain) (ap accepted read))
 
 pub parse-spec : {M : Type 1} → statement M
