@@ -1,6 +1,6 @@
-// Measures two builds of the library in turns: the checksum alone, durable end, reads at a place, appends. bench/before
-// builds and runs this, with the paths of both builds and the number of rounds. Prints a line for each case, and ends with
-// status 1 if the two ever give different sums, ends, entries or bytes.
+// Measures two builds of the library in turns: the checksum alone, durable end, reads at a place, appends, the start file.
+// bench/before builds and runs this, with the paths of both builds and the number of rounds. Prints a line for each case,
+// and ends with status 1 if the two ever give different sums, ends, entries, bytes or places.
 #define _POSIX_C_SOURCE 199309L
 #include <dlfcn.h>
 #include <stdio.h>
@@ -10,7 +10,7 @@
 
 #include "locker_log.h"
 
-enum { REGION = 268435456, LONGEST_RUN = 67108864, MOST_SUMS = 5000000, MOST_APPENDS = 200000, ROOM_FOR_APPENDS = 67108864 };
+enum { REGION = 268435456, LONGEST_RUN = 67108864, MOST_SUMS = 5000000, MOST_APPENDS = 200000, ROOM_FOR_APPENDS = 67108864, STARTS = 20000 };
 
 // What is called of a build. Calls go through these pointers, so the compiler can neither merge nor skip them.
 struct side {
@@ -19,6 +19,7 @@ struct side {
     uint32_t (*append_tombstone)(uint8_t *, size_t, size_t, uint64_t, const uint8_t *, size_t, uint64_t *);
     uint32_t (*durable_end)(const uint8_t *, size_t, size_t, uint64_t *, uint64_t *);
     uint32_t (*read_at)(const uint8_t *, size_t, size_t, size_t, struct locker_entry *);
+    uint32_t (*start_file)(const uint64_t *, size_t, uint64_t, uint64_t *, uint64_t *);
 };
 
 enum { EARLIER, TODAY, SIDES };
@@ -51,6 +52,7 @@ static struct side loaded(const char *path)
     *(void **)&side.append_tombstone = found(library, "locker_append_tombstone");
     *(void **)&side.durable_end = found(library, "locker_durable_end");
     *(void **)&side.read_at = found(library, "locker_read_at");
+    *(void **)&side.start_file = found(library, "locker_start_file");
     return side;
 }
 
@@ -207,6 +209,34 @@ static void measure_appends(struct log log, size_t length)
     report("append", length, (double)log.size * (double)log.count, (double)log.count, best);
 }
 
+// ---- the start file, of an ascending list, where every build chooses the same, and with a cursor past its last ordinal
+
+struct list {
+    uint64_t ordinals[LOCKER_MOST_ORDINALS];
+    size_t count;
+};
+
+static uint64_t started(const struct side *side, const void *what)
+{
+    const struct list *list = what;
+    uint64_t told = 0;
+    for (size_t i = 0; i < STARTS; i++) {
+        uint64_t place = 0, any = 0;
+        if (side->start_file(list->ordinals, list->count, LOCKER_MOST_ORDINALS, &place, &any))
+            fail("a start file was refused");
+        told = told * 31 + place + any;
+    }
+    return told;
+}
+
+static void measure_starts(size_t count)
+{
+    struct list list = {.count = count};
+    for (size_t i = 0; i < count; i++)
+        list.ordinals[i] = i;
+    report("start file", 8 * count, 8.0 * (double)count * STARTS, STARTS, in_turns(started, &list));
+}
+
 int main(int argc, char **argv)
 {
     static const size_t lengths[] = {0, 6, 13, 4096, LONGEST_RUN};
@@ -234,5 +264,7 @@ int main(int argc, char **argv)
         measure_entries(log, entries[i].length);
         measure_appends(log, entries[i].length);
     }
+    for (size_t count = 1; count <= LOCKER_MOST_ORDINALS; count *= 8)
+        measure_starts(count);
     return same ? 0 : 1;
 }

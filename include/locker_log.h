@@ -93,6 +93,7 @@ enum {
     LOCKER_NUMBERS_USED_UP = 16,    /* next number is 2^64 - 1 */
     LOCKER_NAMESPACE_TOO_LARGE = 17, /* namespace over 63 */
     LOCKER_TOO_MANY_ORDINALS = 18,  /* more than 64 ordinals */
+    LOCKER_EQUAL_ORDINALS = 22,     /* two equal ordinals */
     LOCKER_NOT_SOUND = 28           /* tracker value not sound */
 };
 
@@ -234,9 +235,9 @@ uint32_t locker_replay_data(size_t klen, size_t vlen, size_t maximum);
 /* The same for a tombstone. Refuses 3, 11, 13. */
 uint32_t locker_replay_tombstone(size_t klen, size_t maximum);
 
-/* The file at which replay begins, by its place in the list as given: the first with an ordinal at or above the
- * cursor's, else the last. *found is 1 and *place tells it; or *found is 0 for an empty list, and *place stays. Refuses
- * 18. */
+/* The file at which replay begins, by its place in the list as given: the one with the smallest ordinal at or above the
+ * cursor's, else the one with the largest. The list may stand in any order. *found is 1 and *place tells the file; or
+ * *found is 0 for an empty list, and *place stays. Refuses 18, 22. */
 uint32_t locker_start_file(const uint64_t *ordinals, size_t count, uint64_t cursor, uint64_t *place, uint64_t *found);
 
 /* ---- tracker

@@ -752,17 +752,39 @@ static void try_start_file(void) {
             CHECK(place == (count == 0 ? UNTOUCHED : first < count ? first : count - 1));
         }
     }
-    /* the list as given, whatever its order */
-    static const uint64_t mixed[] = {9, 5, UINT64_MAX, 1};
     uint64_t place = UNTOUCHED, found = UNTOUCHED;
-    CHECK(locker_start_file(mixed, 4, 4, &place, &found) == LOCKER_ACCEPTED && found == 1 && place == 0);
-    CHECK(locker_start_file(mixed, 4, 10, &place, &found) == LOCKER_ACCEPTED && found == 1 && place == 2);
-    CHECK(locker_start_file(mixed, 4, UINT64_MAX, &place, &found) == LOCKER_ACCEPTED && found == 1 && place == 2);
-    CHECK(locker_start_file(mixed, 2, UINT64_MAX, &place, &found) == LOCKER_ACCEPTED && found == 1 && place == 1);
-    place = found = UNTOUCHED;
     CHECK(locker_start_file(ordinals, LOCKER_MOST_ORDINALS + 1, 0, &place, &found) == LOCKER_TOO_MANY_ORDINALS);
     CHECK(place == UNTOUCHED && found == UNTOUCHED);
+    /* an equal pair at any two places of a full list, and 18 before it in a longer one */
+    for (size_t first = 0; first < LOCKER_MOST_ORDINALS; first++) {
+        for (size_t second = first + 1; second < LOCKER_MOST_ORDINALS; second++) {
+            ordinals[second] = ordinals[first];
+            CHECK(locker_start_file(ordinals, LOCKER_MOST_ORDINALS, 0, &place, &found) == LOCKER_EQUAL_ORDINALS);
+            CHECK(place == UNTOUCHED && found == UNTOUCHED);
+            CHECK(locker_start_file(ordinals, second, 0, &place, &found) == LOCKER_ACCEPTED && found == 1 && place == 0);
+            place = found = UNTOUCHED;
+            CHECK(locker_start_file(ordinals, LOCKER_MOST_ORDINALS + 1, 0, &place, &found) == LOCKER_TOO_MANY_ORDINALS);
+            ordinals[second] = kept[second];
+        }
+    }
     CHECK(memcmp(ordinals, kept, sizeof kept) == 0);
+    /* any order: a full list up, down and scattered (a step without a common divisor with 64), each turned to all its starts */
+    static const size_t steps[] = {1, LOCKER_MOST_ORDINALS - 1, 37};
+    for (size_t k = 0; k < sizeof steps / sizeof *steps; k++) {
+        for (size_t turn = 0; turn < LOCKER_MOST_ORDINALS; turn++) {
+            for (size_t i = 0; i < LOCKER_MOST_ORDINALS; i++) ordinals[(steps[k] * i + turn) % LOCKER_MOST_ORDINALS] = 10 * i;
+            for (uint64_t cursor = 0; cursor <= 640; cursor += 5) {
+                uint64_t file = (cursor + 9) / 10 < LOCKER_MOST_ORDINALS ? (cursor + 9) / 10 : LOCKER_MOST_ORDINALS - 1;
+                CHECK(locker_start_file(ordinals, LOCKER_MOST_ORDINALS, cursor, &place, &found) == LOCKER_ACCEPTED);
+                CHECK(found == 1 && place == (steps[k] * file + turn) % LOCKER_MOST_ORDINALS);
+            }
+        }
+    }
+    static const uint64_t mixed[] = {9, 5, UINT64_MAX, 1};
+    CHECK(locker_start_file(mixed, 4, 4, &place, &found) == LOCKER_ACCEPTED && found == 1 && place == 1);
+    CHECK(locker_start_file(mixed, 4, 10, &place, &found) == LOCKER_ACCEPTED && found == 1 && place == 2);
+    CHECK(locker_start_file(mixed, 4, UINT64_MAX, &place, &found) == LOCKER_ACCEPTED && found == 1 && place == 2);
+    CHECK(locker_start_file(mixed, 2, UINT64_MAX, &place, &found) == LOCKER_ACCEPTED && found == 1 && place == 0);
 }
 
 /* ---- tracker

@@ -89,9 +89,10 @@ fn cut_unix(text: &str, first: &str, count: usize) -> String {
     piece.to_string()
 }
 
-/// The two limits of replay as methods of a store that has nothing but its configuration, and the choice of the start file
-/// as a function: the statement that leaves where there is no file, and the one that chooses.
-fn cut_recovery(text: &str) -> String {
+/// The two limits of replay as methods of a store that has nothing but its configuration; the order that the store gives to
+/// its files, as a function; and the choice of the start file as another: the statement that leaves where there is no file,
+/// and the one that chooses.
+fn cut_recovery(text: &str, store: &str) -> String {
     let data =
         cut(text, "    fn validate_recovered_data_entry(&self, key: &[u8], val: &[u8]) -> Result<()> {", "    }", 12);
     let tombstone =
@@ -99,8 +100,11 @@ fn cut_recovery(text: &str) -> String {
     let none = cut(text, "        let Some(last_file) = ordered_files.last().cloned() else {", "        };", 3);
     let start =
         cut(text, "        let start_idx = ordered_files", "            .unwrap_or(ordered_files.len() - 1);", 4);
+    const SORTS: &str = "        files.sort_by_key(|data_file| data_file.file_ordinal);";
+    let order = cut(store, SORTS, SORTS, 1);
     format!(
         "impl CandyStore {{\n{data}\n{tombstone}}}\n\n\
+         fn ordered(mut files: Vec<Listed>) -> Vec<Listed> {{\n{order}        files\n}}\n\n\
          #[allow(unused_variables)]\n\
          fn choose(ordered_files: &[Listed], commit_file_ordinal: u64, chosen: &mut Option<usize>) -> Result<()> {{\n\
          {none}{start}        *chosen = Some(start_idx);\n        Ok(())\n}}\n"
@@ -112,8 +116,9 @@ fn main() {
     let (data_file, _) = text_at(&folder, "src--src--data_file.rs.txt");
     let (_, internal) = text_at(&folder, "src--src--internal.rs.txt");
     let (_, recovery) = text_at(&folder, "src--src--store--recovery.rs.txt");
+    let (_, store) = text_at(&folder, "src--src--store.rs.txt");
     println!("cargo:rustc-env=LOCKER_DATA_FILE_TEXT={}", data_file.display());
     let out = PathBuf::from(env::var_os("OUT_DIR").unwrap());
     fs::write(out.join("internal_cut.rs"), cut_internal(&internal)).unwrap();
-    fs::write(out.join("recovery_cut.rs"), cut_recovery(&recovery)).unwrap();
+    fs::write(out.join("recovery_cut.rs"), cut_recovery(&recovery, &store)).unwrap();
 }

@@ -163,7 +163,7 @@ pub const OPERATIONS: &[Operation] = &[
     Operation { name: "clear", answers: &["cleared", "28"] },
     Operation { name: "replay data", answers: &["accepted", "3", "11", "12", "13"] },
     Operation { name: "replay tombstone", answers: &["accepted", "3", "11", "13"] },
-    Operation { name: "start file", answers: &["place", "Nothing", "18"] },
+    Operation { name: "start file", answers: &["place", "Nothing", "18", "22"] },
 ];
 
 impl Call {

@@ -560,6 +560,8 @@ impl Draw {
         }
     }
 
+    /// A list in any order or sorted, of a few ordinals or about as many as it may have, with equal ones or without: those
+    /// are told apart by their places, without a further draw, so that a seed's other calls stay as they are.
     fn start_file(&mut self) -> Call {
         let count = if self.rng.once_in(3) { self.rng.within(60, 70) } else { self.rng.below(8) };
         let spread = self.rng.pick(&[3, 10, 100, u64::MAX]);
@@ -567,7 +569,14 @@ impl Draw {
         if self.rng.once_in(2) {
             ordinals.sort_unstable();
         }
-        let cursor = if self.rng.once_in(4) { u64::MAX - self.rng.below(2) } else { self.rng.below(spread) };
+        let mut cursor = if self.rng.once_in(4) { u64::MAX - self.rng.below(2) } else { self.rng.below(spread) };
+        if spread < u64::MAX && cursor % 2 == 0 {
+            let met = ordinals.iter().position(|&ordinal| ordinal == cursor);
+            for (place, ordinal) in ordinals.iter_mut().enumerate() {
+                *ordinal = *ordinal * 128 + place as u64;
+            }
+            cursor = met.map_or(cursor.saturating_mul(128), |place| ordinals[place]);
+        }
         Call::StartFile { ordinals, cursor }
     }
 

@@ -355,16 +355,22 @@ fn replay_limits() -> Calls {
     }))
 }
 
-/// Every list of at most four ordinals below 3, every cursor; and lists of 63 to 66.
+/// Every list of at most four ordinals below 5, every cursor; and lists of 63 to 66: sorted up and down, and with one equal
+/// pair, whose second half stands last.
 fn start_lists() -> Calls {
     let short = (0..=4u32).flat_map(|count| {
-        (0..3u64.pow(count)).flat_map(move |code| {
-            let ordinals: Vec<u64> = (0..count).map(|i| code / 3u64.pow(i) % 3).collect();
-            (0..4).map(move |cursor| Call::StartFile { ordinals: ordinals.clone(), cursor })
+        (0..5u64.pow(count)).flat_map(move |code| {
+            let ordinals: Vec<u64> = (0..count).map(|i| code / 5u64.pow(i) % 5).collect();
+            (0..6).map(move |cursor| Call::StartFile { ordinals: ordinals.clone(), cursor })
         })
     });
     let long = (63..=66u64).flat_map(|count| {
-        [0, 62, 63, 64, 65, u64::MAX].map(|cursor| Call::StartFile { ordinals: (0..count).collect(), cursor })
+        let up: Vec<u64> = (0..count).collect();
+        let down: Vec<u64> = (0..count).rev().collect();
+        let pairs = [0, 30, count - 2].map(|first| (0..count - 1).chain([first]).collect());
+        [up, down].into_iter().chain(pairs).flat_map(|ordinals| {
+            [0, 62, 63, 64, 65, u64::MAX].map(|cursor| Call::StartFile { ordinals: ordinals.clone(), cursor })
+        })
     });
     Box::new(short.chain(long))
 }

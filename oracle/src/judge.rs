@@ -648,14 +648,23 @@ fn part(region: &Region, at: u64, len: u64) -> Judgement {
 fn start_file(ordinals: &[u64], cursor: u64) -> Judgement {
     let chosen = original::start_file(ordinals, cursor);
     note(&chosen);
-    if ordinals.len() > 64 {
-        let first = ordinals.iter().position(|&ordinal| ordinal >= cursor).unwrap_or(ordinals.len() - 1);
-        if chosen != Some(first) {
-            return Err(format!("start file: of a long list {chosen:?} is chosen"));
-        }
-        return parted(Said::refused(18), "start file: over 64 ordinals (chosen)");
+    let mut places: Vec<usize> = (0..ordinals.len()).collect();
+    places.sort_by_key(|&place| ordinals[place]);
+    let parting = if ordinals.len() > 64 {
+        Some((18, "start file: over 64 ordinals (chosen)"))
+    } else if places.windows(2).any(|two| ordinals[two[0]] == ordinals[two[1]]) {
+        Some((22, "start file: two equal ordinals (chosen)"))
+    } else {
+        None
+    };
+    let Some((number, name)) = parting else {
+        return same(chosen.map_or(Said::values(&[0]), |place| Said::values(&[1, place as u64])));
+    };
+    let first = places.iter().find(|&&place| ordinals[place] >= cursor).or(places.last());
+    if chosen.as_ref() != first {
+        return Err(format!("start file: of a list that is refused {chosen:?} is chosen"));
     }
-    same(chosen.map_or(Said::values(&[0]), |place| Said::values(&[1, place as u64])))
+    parted(Said::refused(number), name)
 }
 
 // ---- tracker

@@ -1,5 +1,7 @@
-//! Document 01 written out as a plain program, with document 02's request 4: a third opinion, and the place where
-//! `oracle/awake` plants its slips. With no slip it has to agree with the original as the library does.
+//! Document 01 written out as a plain program, with document 02's requests 4 and 5: a third opinion, and the place
+//! where `oracle/awake` plants its slips. With no slip it has to agree with the original as the library does.
+use std::collections::BTreeSet;
+
 use crate::{
     calls::{eight, up16, Call, Region, Said, Slot, State, Step, HEADER, MAX_REGION},
     library::{listing, window, Side},
@@ -67,8 +69,12 @@ pub const SLIPS: &[(&str, &str)] = &[
     ("tracker-order-swapped", "reserve: 5 is given before 15"),
     ("replay-unrounded", "replay: the size isn't rounded up"),
     ("replay-tombstone-ten", "replay: a tombstone is measured as a data entry"),
-    ("start-above", "start file: the first above the cursor's ordinal"),
-    ("start-first", "start file: the first where none is at or above"),
+    ("start-above", "start file: the smallest above the cursor's ordinal"),
+    ("start-smallest", "start file: the smallest where none is at or above"),
+    ("start-as-listed", "start file: the first in the list as given, else its last"),
+    ("start-place-sorted", "start file: the place is the one in the sorted list"),
+    ("start-twins", "start file: equal ordinals are taken"),
+    ("start-twins-first", "start file: 22 is given before 18"),
 ];
 
 pub struct Paper {
@@ -410,15 +416,33 @@ impl Paper {
     }
 
     fn start_file(&self, ordinals: &[u64], cursor: u64) -> Said {
+        let distinct: BTreeSet<u64> = ordinals.iter().copied().collect();
+        let twins = distinct.len() < ordinals.len() && !self.slips("start-twins");
+        if twins && self.slips("start-twins-first") {
+            return Said::refused(22);
+        }
         if ordinals.len() > 64 {
             return Said::refused(18);
         }
-        if ordinals.is_empty() {
-            return Said::values(&[0]);
+        if twins {
+            return Said::refused(22);
         }
-        let first = ordinals.iter().position(|&o| o > cursor || (o == cursor && !self.slips("start-above")));
-        let otherwise = if self.slips("start-first") { 0 } else { ordinals.len() - 1 };
-        Said::values(&[1, first.unwrap_or(otherwise) as u64])
+        let (Some(&smallest), Some(&largest)) = (distinct.first(), distinct.last()) else {
+            return Said::values(&[0]);
+        };
+        let suits = |o: &u64| *o > cursor || (*o == cursor && !self.slips("start-above"));
+        let otherwise = if self.slips("start-smallest") { smallest } else { largest };
+        let ordinal = if self.slips("start-as-listed") {
+            ordinals.iter().copied().find(suits).unwrap_or(ordinals[ordinals.len() - 1])
+        } else {
+            distinct.iter().copied().find(suits).unwrap_or(otherwise)
+        };
+        let place = if self.slips("start-place-sorted") {
+            distinct.range(..ordinal).count()
+        } else {
+            ordinals.iter().position(|&o| o == ordinal).unwrap()
+        };
+        Said::values(&[1, place as u64])
     }
 
     fn lend(

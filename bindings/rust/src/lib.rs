@@ -147,7 +147,8 @@ pub fn check_replay(kind: Kind, klen: usize, vlen: usize, maximum: usize) -> Res
     })
 }
 
-/// The place in the list, as given, of the file at which replay begins; `None` for an empty list. Refuses 18.
+/// The place in the list, as given, of the file at which replay begins: the one with the smallest ordinal at or above the
+/// cursor's, else the one with the largest, whatever the list's order; `None` for an empty list. Refuses 18, 22.
 pub fn start_file(ordinals: &[u64], cursor: u64) -> Result<Option<usize>, Refusal> {
     let (mut place, mut found) = (0, 0);
     // SAFETY: one slice, and two numbers of our own.

@@ -54,6 +54,7 @@ refusals! {
     NumbersUsedUp = 16, "next number is 2^64 - 1";
     NamespaceTooLarge = 17, "namespace over 63";
     TooManyOrdinals = 18, "more than 64 ordinals";
+    EqualOrdinals = 22, "two equal ordinals";
     NotSound = 28, "tracker value not sound";
 }
 

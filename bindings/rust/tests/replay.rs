@@ -24,7 +24,43 @@ fn start() {
     assert_eq!(start_file(&[1, 5, 9], 5), Ok(Some(1)));
     assert_eq!(start_file(&[1, 5, 9], 6), Ok(Some(2)));
     assert_eq!(start_file(&[1, 5, 9], 10), Ok(Some(2)));
-    assert_eq!(start_file(&[9, 5, 1], 4), Ok(Some(0)), "the first in the list as given");
-    assert_eq!(start_file(&[7; 64], 7), Ok(Some(0)));
+    assert_eq!(start_file(&[9, 5, 1], 4), Ok(Some(1)), "the smallest at or above, not the first");
+    assert_eq!(start_file(&[5, 9, 1], 10), Ok(Some(1)), "the largest, not the last");
+    assert_eq!(start_file(&[7; 64], 7), Err(Refusal::EqualOrdinals));
     assert_eq!(start_file(&[7; 65], 7), Err(Refusal::TooManyOrdinals));
+}
+
+/// Heap's way through all orders of a list.
+fn each_order(list: &mut [u64], of: usize, visit: &mut impl FnMut(&[u64])) {
+    if of <= 1 {
+        return visit(list);
+    }
+    for i in 0..of {
+        each_order(list, of - 1, visit);
+        list.swap(if of % 2 == 0 { i } else { 0 }, of - 1);
+    }
+}
+
+/// In each of the 720 orders of six ordinals the file is the one that the sorted list gives; with one of them twice there is
+/// none.
+#[test]
+fn start_in_any_order() {
+    const SORTED: [u64; 6] = [0, 1, 5, 9, u64::MAX - 1, u64::MAX];
+    let mut orders = 0;
+    each_order(&mut SORTED.clone(), 6, &mut |list| {
+        orders += 1;
+        for cursor in [0, 1, 2, 5, 6, 9, 10, u64::MAX - 1, u64::MAX] {
+            let right = *SORTED.iter().find(|&&ordinal| ordinal >= cursor).unwrap();
+            let place = start_file(list, cursor).unwrap().unwrap();
+            assert_eq!(list[place], right);
+            let few = start_file(&list[..3], cursor).unwrap().unwrap();
+            let right = list[..3].iter().filter(|&&o| o >= cursor).min().or(list[..3].iter().max()).unwrap();
+            assert_eq!(list[few], *right);
+        }
+        for twice in 0..6 {
+            let longer = [list, &[list[twice]]].concat();
+            assert_eq!(start_file(&longer, 5), Err(Refusal::EqualOrdinals));
+        }
+    });
+    assert_eq!(orders, 720);
 }

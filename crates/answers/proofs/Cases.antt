@@ -9,7 +9,7 @@ use Rattle.answers.specs.Answers.{Said, accepted, refused, unlessRefused
 use Rattle.answers.specs.declared.Verdict.{Verdict}
 use Rattle.answers.specs.declared.Verdict.the-variants.{Accepted, Refused}
 use Rattle.answers.specs.declared.Refusal.{Refusal}
-use Rattle.answers.specs.declared.Refusal.the-variants.{HeaderTooShort, WrongHeader, RegionTooLarge, BoundPastRegion, NotOnLine, EntryTooShort, WrongMark, WrongChecksum, TypeNotAllowed, UnknownType, KeyTooLong, ValueTooLong, NoSpace, ShardTooLarge, NoWaitingRoom, NumbersUsedUp, NamespaceTooLarge, TooManyOrdinals, NotSound}
+use Rattle.answers.specs.declared.Refusal.the-variants.{HeaderTooShort, WrongHeader, RegionTooLarge, BoundPastRegion, NotOnLine, EntryTooShort, WrongMark, WrongChecksum, TypeNotAllowed, UnknownType, KeyTooLong, ValueTooLong, NoSpace, ShardTooLarge, NoWaitingRoom, NumbersUsedUp, NamespaceTooLarge, TooManyOrdinals, EqualOrdinals, NotSound}
 
 -- the case at a place of the list, `NotSound` past its end
 caseAt : List Refusal → ℕ → Refusal
@@ -17,9 +17,9 @@ caseAt [] n = NotSound
 caseAt (r ∷ rs) zero = r
 caseAt (r ∷ rs) (suc n) = caseAt rs n
 
--- the case of a number: those from 1 to 18 in their order, 28 past them; 0 is nobody's, and its place is of no account
+-- the case of a number: those from 1 to 18 in their order, then 22, and 28 past them; the places of numbers that are nobody's are of no account
 caseOf : ℕ → Refusal
-caseOf = caseAt (NotSound ∷ HeaderTooShort ∷ WrongHeader ∷ RegionTooLarge ∷ BoundPastRegion ∷ NotOnLine ∷ EntryTooShort ∷ WrongMark ∷ WrongChecksum ∷ TypeNotAllowed ∷ UnknownType ∷ KeyTooLong ∷ ValueTooLong ∷ NoSpace ∷ ShardTooLarge ∷ NoWaitingRoom ∷ NumbersUsedUp ∷ NamespaceTooLarge ∷ TooManyOrdinals ∷ [])
+caseOf = caseAt (NotSound ∷ HeaderTooShort ∷ WrongHeader ∷ RegionTooLarge ∷ BoundPastRegion ∷ NotOnLine ∷ EntryTooShort ∷ WrongMark ∷ WrongChecksum ∷ TypeNotAllowed ∷ UnknownType ∷ KeyTooLong ∷ ValueTooLong ∷ NoSpace ∷ ShardTooLarge ∷ NoWaitingRoom ∷ NumbersUsedUp ∷ NamespaceTooLarge ∷ TooManyOrdinals ∷ NotSound ∷ NotSound ∷ NotSound ∷ EqualOrdinals ∷ [])
 
 case-of-number : (r : Refusal) → caseOf (numberOf r) ≡ r
 unfolding caseOf caseAt
@@ -41,6 +41,7 @@ case-of-number NoWaitingRoom = refl
 case-of-number NumbersUsedUp = refl
 case-of-number NamespaceTooLarge = refl
 case-of-number TooManyOrdinals = refl
+case-of-number EqualOrdinals = refl
 case-of-number NotSound = refl
 
 pub same-number : (a b : Refusal) → numberOf a ≡ numberOf b → a ≡ b
@@ -66,6 +67,7 @@ refusal-refuses NoWaitingRoom answer = refl
 refusal-refuses NumbersUsedUp answer = refl
 refusal-refuses NamespaceTooLarge answer = refl
 refusal-refuses TooManyOrdinals answer = refl
+refusal-refuses EqualOrdinals answer = refl
 refusal-refuses NotSound answer = refl
 
 -- the paper's words tell a check's answers apart

@@ -2,7 +2,7 @@
 -- Assumes nothing.
 use Prim.Native.Nat.{ℕ}
 use Rattle.answers.specs.declared.Refusal.{Refusal}
-use Rattle.answers.specs.declared.Refusal.the-variants.{HeaderTooShort, WrongHeader, RegionTooLarge, BoundPastRegion, NotOnLine, EntryTooShort, WrongMark, WrongChecksum, TypeNotAllowed, UnknownType, KeyTooLong, ValueTooLong, NoSpace, ShardTooLarge, NoWaitingRoom, NumbersUsedUp, NamespaceTooLarge, TooManyOrdinals, NotSound}
+use Rattle.answers.specs.declared.Refusal.the-variants.{HeaderTooShort, WrongHeader, RegionTooLarge, BoundPastRegion, NotOnLine, EntryTooShort, WrongMark, WrongChecksum, TypeNotAllowed, UnknownType, KeyTooLong, ValueTooLong, NoSpace, ShardTooLarge, NoWaitingRoom, NumbersUsedUp, NamespaceTooLarge, TooManyOrdinals, EqualOrdinals, NotSound}
 use Rattle.answers.specs.declared.Verdict.{Verdict}
 use Rattle.answers.specs.declared.Verdict.the-variants.{Accepted, Refused}
 
@@ -25,6 +25,7 @@ numberOf NoWaitingRoom = 15
 numberOf NumbersUsedUp = 16
 numberOf NamespaceTooLarge = 17
 numberOf TooManyOrdinals = 18
+numberOf EqualOrdinals = 22
 numberOf NotSound = 28
 
 -- a check's answer: 0 where it accepts

@@ -51,6 +51,8 @@ pub enum Refusal {
     NamespaceTooLarge,
     // 18: more than 64 ordinals
     TooManyOrdinals,
+    // 22: two equal ordinals
+    EqualOrdinals,
     // 28: tracker value not sound
     NotSound,
 }
@@ -84,6 +86,7 @@ pub fn number(refusal: Refusal) -> u32
         Refusal::NumbersUsedUp => 16,
         Refusal::NamespaceTooLarge => 17,
         Refusal::TooManyOrdinals => 18,
+        Refusal::EqualOrdinals => 22,
         Refusal::NotSound => 28,
     }
 }

@@ -1,2 +1,6 @@
-pub mod Places
+pub mod Listings
+pub mod Choices
+pub mod Starts
+pub mod Orders
+pub mod Examples
 pub mod Only

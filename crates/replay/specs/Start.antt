@@ -1,10 +1,10 @@
--- Document 01, "Replay limits and start": the start file.
+-- Document 01, "Replay limits and start", as document 02's request 5 has it: the start file.
 -- Assumes nothing.
-use Prim.Native.Nat.{ℕ, suc, _-_}
-use mathlib.Core.Bool.{cond}
+use Prim.Native.Nat.{ℕ, suc}
+use mathlib.Core.Bool.{Bool, false, cond, _||_}
 use mathlib.Core.List.{List, [], _∷_}
 use lib.ListN.{length}
-use lib.Dec.{ltb, leb}
+use lib.Dec.{ltb, leb, eqb}
 use Rattle.answers.specs.Numbers.{numberOf}
 use Rattle.answers.specs.Answers.{Said, accepted, refused, firstOf, unlessRefused}
 use Rattle.replay.specs.declared.StartAnswer.{StartAnswer}
@@ -14,23 +14,51 @@ pub data Started : Type 0 where
   file : ℕ → Started
   nothing : Started
 
--- how many stand before "the first with ordinal at or above the cursor's"
-abbrev pub countBelow : ℕ → List ℕ → ℕ
-countBelow cursor [] = 0
-countBelow cursor (o ∷ os) = cond (leb cursor o) 0 (suc (countBelow cursor os))
+-- whether an ordinal stands in a list
+abbrev pub listed : ℕ → List ℕ → Bool
+listed o [] = false
+listed o (q ∷ qs) = eqb o q || listed o qs
 
--- "in the list as given .., the first with ordinal at or above the cursor's, else the last; the answer is its place in the list, from 0"
-unfoldable pub placeOf : ℕ → List ℕ → ℕ
-placeOf cursor os = cond (ltb (countBelow cursor os) (length os)) (countBelow cursor os) (length os - 1)
+-- request 5: "two equal ordinals"
+abbrev pub twins : List ℕ → Bool
+twins [] = false
+twins (o ∷ os) = listed o os || twins os
+
+-- the ordinals of a list that are "at or above the cursor's"
+abbrev pub atOrAbove : ℕ → List ℕ → List ℕ
+atOrAbove cursor [] = []
+atOrAbove cursor (o ∷ os) = cond (leb cursor o) (o ∷ atOrAbove cursor os) (atOrAbove cursor os)
+
+-- "the smallest" of a list, "else" the number that is handed along
+abbrev pub smallestElse : ℕ → List ℕ → ℕ
+smallestElse otherwise [] = otherwise
+smallestElse otherwise (o ∷ os) = cond (ltb (smallestElse o os) o) (smallestElse o os) o
+
+-- "the largest" of a list; no ordinal is below 0
+abbrev pub largest : List ℕ → ℕ
+largest [] = 0
+largest (o ∷ os) = cond (ltb o (largest os)) (largest os) o
+
+-- request 5: "The start file is the one with the smallest ordinal at or above the cursor's, else the one with the largest."
+unfoldable pub startOrdinal : ℕ → List ℕ → ℕ
+startOrdinal cursor os = smallestElse (largest os) (atOrAbove cursor os)
+
+-- "its place in the list, from 0": how many stand before it
+abbrev pub placeOf : ℕ → List ℕ → ℕ
+placeOf ordinal [] = 0
+placeOf ordinal (o ∷ os) = cond (eqb ordinal o) 0 (suc (placeOf ordinal os))
 
 -- "an empty list answers Nothing"
 abbrev pub startedOf : ℕ → List ℕ → Started
 startedOf cursor [] = nothing
-startedOf cursor (o ∷ os) = file (placeOf cursor (o ∷ os))
+startedOf cursor (o ∷ os) = file (placeOf (startOrdinal cursor (o ∷ os)) (o ∷ os))
 
--- "Start file 18": "more than 64 ordinals"
+-- "Start file 18": "more than 64 ordinals"; request 5: "22 for two equal ordinals, after 18"
+abbrev pub startTests : List ℕ → List (Bool × ℕ)
+startTests os = (ltb 64 (length os), 18) ∷ (twins os, 22) ∷ []
+
 unfoldable pub startOf : List ℕ → ℕ → Said Started
-startOf os cursor = unlessRefused (firstOf ((ltb 64 (length os), 18) ∷ [])) (accepted (startedOf cursor os))
+startOf os cursor = unlessRefused (firstOf (startTests os)) (accepted (startedOf cursor os))
 
 abbrev pub saidStart : StartAnswer → Said Started
 saidStart (File place) = accepted (file place)

@@ -627,20 +627,53 @@ fn start(ordinals: &[u64], from: u64) {
     line();
 }
 
+// The start file of the first so many of a list.
+fn start_of(list: &[u64], count: usize, from: u64) {
+    if count <= list.len() {
+        start(&list[0..count], from);
+    }
+}
+
+// Writes the ordinals from the list's length down to 1.
+fn count_down(list: &mut [u64]) {
+    let mut i: usize = 0;
+    while i < list.len() {
+        list[i] = (list.len() - i) as u64;
+        i += 1;
+    }
+}
+
 fn start_files() {
     say(b"-- start file, in the list 5, 3, 9\n");
     let list = [5u64, 3, 9];
     start(&list, 0);
-    start(&list, 5);
+    start(&list, 3);
+    start(&list, 4);
     start(&list, 6);
     start(&list, 9);
     start(&list, 10);
-    say(b"-- start file of none, of 64 and of 65\n");
-    let many = [7u64; 65];
-    start(&many[..0], 0);
-    start(&many[..64], 7);
-    start(&many[..64], 8);
-    start(&many, 7);
+    say(b"-- the same files in the list 9, 5, 3\n");
+    let turned = [9u64, 5, 3];
+    start(&turned, 0);
+    start(&turned, 3);
+    start(&turned, 4);
+    start(&turned, 6);
+    start(&turned, 9);
+    start(&turned, 10);
+    say(b"-- start file of none, and of 64 and 65, the largest ordinal first\n");
+    let mut many = [0u64; 65];
+    count_down(&mut many);
+    start_of(&many, 0, 0);
+    start_of(&many, 64, 0);
+    start_of(&many, 64, 34);
+    start_of(&many, 64, 66);
+    start(&many, 34);
+    say(b"-- start file where all ordinals are equal\n");
+    let equal = [7u64; 65];
+    start_of(&equal, 1, 7);
+    start_of(&equal, 2, 7);
+    start_of(&equal, 64, 8);
+    start(&equal, 7);
 }
 
 fn main() {

@@ -1,4 +1,5 @@
-//! The pieces of recovery.rs that document 01 takes, cut out of its text by `build.rs`, and the little that they stand on.
+//! The pieces of recovery.rs that document 01 takes, and the statement of store.rs that puts the files in order before
+//! them, cut out of the text by `build.rs`, and the little that they stand on.
 use crate::{
     internal::{aligned_data_entry_size, aligned_tombstone_entry_waste, invalid_data_error},
     types::{Config, Result, MAX_USER_KEY_SIZE, MAX_USER_VALUE_SIZE},
@@ -12,10 +13,11 @@ struct CandyStore {
     inner: Inner,
 }
 
-/// A file of the list, of which the statement looks at the ordinal alone.
+/// A file of the list, of which the statements look at the ordinal alone, and its place in the list as given.
 #[derive(Clone)]
 struct Listed {
     file_ordinal: u64,
+    place: usize,
 }
 
 include!(concat!(env!("OUT_DIR"), "/recovery_cut.rs"));
@@ -32,10 +34,11 @@ pub fn accepts_tombstone(key: &[u8], maximum: u32) -> bool {
     store(maximum).validate_recovered_tombstone_entry(key).is_ok()
 }
 
-/// The place of the file at which replay begins; none where recovery leaves before it chooses.
+/// The file at which replay begins, by its place in the list as given; none where recovery leaves before it chooses.
 pub fn start_file(ordinals: &[u64], cursor: u64) -> Option<usize> {
-    let listed: Vec<Listed> = ordinals.iter().map(|&file_ordinal| Listed { file_ordinal }).collect();
+    let listed = ordinals.iter().enumerate().map(|(place, &file_ordinal)| Listed { file_ordinal, place });
+    let ordered_files = ordered(listed.collect());
     let mut chosen = None;
-    choose(&listed, cursor, &mut chosen).expect("the two statements give no error");
-    chosen
+    choose(&ordered_files, cursor, &mut chosen).expect("the two statements give no error");
+    chosen.map(|index: usize| ordered_files[index].place)
 }
