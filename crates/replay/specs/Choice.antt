@@ -1,4 +1,5 @@
--- What the theorems about the start file speak of (proofs/Orders.antt); no contract of a public operation does.
+-- What the theorems about the start file speak of (proofs/Orders.antt), and what the test of two ordinals promises; no contract of a public
+-- operation rests on it.
 -- Assumes nothing.
 use Prim.Native.Nat.{ℕ, suc, _-_, _≤_, _<_}
 use mathlib.Core.Path.{_≡_}
@@ -54,6 +55,6 @@ startedAsListed cursor (o ∷ os) = file (placeAsListed cursor (o ∷ os))
 unfoldable pub startAsListed : List ℕ → ℕ → Said Started
 startAsListed os cursor = unlessRefused (firstOf ((ltb 64 (length os), 18) ∷ [])) (accepted (startedAsListed cursor os))
 
--- a later ordinal of the list is a larger one
+-- strictly ascending: a later ordinal of the list is a larger one
 abbrev pub Ascending : List ℕ → Type 0
 Ascending os = (i j : ℕ) → i < j → j < length os → getD os i 0 < getD os j 0
