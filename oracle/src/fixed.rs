@@ -355,8 +355,8 @@ fn replay_limits() -> Calls {
     }))
 }
 
-/// Every list of at most four ordinals below 5, every cursor; and lists of 63 to 66: sorted up and down, and with one equal
-/// pair, whose second half stands last.
+/// Every list of at most four ordinals below 5, every cursor; and lists of 63 to 66: sorted up and down, and with a last
+/// ordinal that stands in the list before.
 fn start_lists() -> Calls {
     let short = (0..=4u32).flat_map(|count| {
         (0..5u64.pow(count)).flat_map(move |code| {
