@@ -1,6 +1,6 @@
-// Measures two builds of the library in turns: the checksum alone, durable end, reads at a place, appends, the start file.
-// bench/before builds and runs this, with the paths of both builds and the number of rounds. Prints a line for each case,
-// and ends with status 1 if the two ever give different sums, ends, entries, bytes or places.
+// Measures two builds of the library in turns: the checksum alone, durable end, reads at a place, appends, the start file,
+// the tracker. bench/before builds and runs this, with the paths of both builds and the number of rounds. Prints a line for
+// each case, and ends with status 1 if the two ever give different sums, ends, entries, bytes, places or progress.
 #define _POSIX_C_SOURCE 199309L
 #include <dlfcn.h>
 #include <stdio.h>
@@ -10,7 +10,7 @@
 
 #include "locker_log.h"
 
-enum { REGION = 268435456, LONGEST_RUN = 67108864, MOST_SUMS = 5000000, MOST_APPENDS = 200000, ROOM_FOR_APPENDS = 67108864, STARTS = 20000 };
+enum { REGION = 268435456, LONGEST_RUN = 67108864, MOST_SUMS = 5000000, MOST_APPENDS = 200000, ROOM_FOR_APPENDS = 67108864, STARTS = 20000, TRACKS = 20000 };
 
 // What is called of a build. Calls go through these pointers, so the compiler can neither merge nor skip them.
 struct side {
@@ -20,6 +20,8 @@ struct side {
     uint32_t (*durable_end)(const uint8_t *, size_t, size_t, uint64_t *, uint64_t *);
     uint32_t (*read_at)(const uint8_t *, size_t, size_t, size_t, struct locker_entry *);
     uint32_t (*start_file)(const uint64_t *, size_t, uint64_t, uint64_t *, uint64_t *);
+    uint32_t (*complete)(struct locker_tracker *, size_t, uint64_t, int8_t, uint64_t *);
+    uint32_t (*checkpoint)(const struct locker_tracker *, uint64_t, uint64_t, struct locker_progress *);
 };
 
 enum { EARLIER, TODAY, SIDES };
@@ -53,6 +55,8 @@ static struct side loaded(const char *path)
     *(void **)&side.durable_end = found(library, "locker_durable_end");
     *(void **)&side.read_at = found(library, "locker_read_at");
     *(void **)&side.start_file = found(library, "locker_start_file");
+    *(void **)&side.complete = found(library, "locker_tracker_complete");
+    *(void **)&side.checkpoint = found(library, "locker_tracker_checkpoint");
     return side;
 }
 
@@ -237,6 +241,66 @@ static void measure_starts(size_t count)
     report("start file", 8 * count, 8.0 * (double)count * STARTS, STARTS, in_turns(started, &list));
 }
 
+// ---- the tracker, where as many deltas wait on each shard, numbers from 2 on. Each is a number of 8 bytes and a byte
+
+enum { DELTA = 9, SHARD = 3, LAST = 1000 };
+
+struct waiting {
+    struct locker_tracker tracker;
+    uint64_t number;
+};
+
+static uint64_t checkpoints(const struct side *side, const void *what)
+{
+    const struct waiting *waiting = what;
+    uint64_t told = 0;
+    for (size_t i = 0; i < TRACKS; i++) {
+        struct locker_progress progress;
+        if (side->checkpoint(&waiting->tracker, 7, i, &progress))
+            fail("a checkpoint was refused");
+        told = told * 31 + progress.offset + (uint64_t)progress.sum + progress.limit + progress.pending;
+    }
+    return told;
+}
+
+// The same reservation is completed again and again: its shard's cells are set back each time. Where the delta went isn't
+// looked at, since builds differ in that.
+static uint64_t completions(const struct side *side, const void *what)
+{
+    const struct waiting *waiting = what;
+    const size_t base = SHARD * LOCKER_WAITING;
+    struct locker_tracker t = waiting->tracker;
+    uint64_t told = 0, done;
+    for (size_t i = 0; i < TRACKS; i++) {
+        memcpy(t.numbers + base, waiting->tracker.numbers + base, LOCKER_WAITING * sizeof *t.numbers);
+        memcpy(t.deltas + base, waiting->tracker.deltas + base, LOCKER_WAITING);
+        t.lengths[SHARD] = waiting->tracker.lengths[SHARD];
+        t.slots[SHARD].number = waiting->number;
+        if (side->complete(&t, SHARD, waiting->number, 1, &done))
+            fail("a completion was refused");
+        told = told * 31 + done + t.lengths[SHARD];
+    }
+    return told;
+}
+
+static void measure_tracker(size_t count)
+{
+    struct waiting waiting = {.tracker = {.next = LAST + 1}, .number = LAST};
+    for (size_t i = 0; i < LOCKER_SHARDS * LOCKER_WAITING; i++) {
+        waiting.tracker.numbers[i] = i % LOCKER_WAITING + 2;
+        waiting.tracker.deltas[i] = 1;
+    }
+    for (size_t shard = 0; shard < LOCKER_SHARDS; shard++) {
+        waiting.tracker.lengths[shard] = count;
+        waiting.tracker.slots[shard] = (struct locker_slot){LAST, 7, 16 * shard};
+    }
+    const size_t all = LOCKER_SHARDS * count * DELTA;
+    report("checkpoint", all, (double)all * TRACKS, TRACKS, in_turns(checkpoints, &waiting));
+    report("complete", all, (double)all * TRACKS, TRACKS, in_turns(completions, &waiting));
+    waiting.number = 1;
+    report(".. in front", all, (double)all * TRACKS, TRACKS, in_turns(completions, &waiting));
+}
+
 int main(int argc, char **argv)
 {
     static const size_t lengths[] = {0, 6, 13, 4096, LONGEST_RUN};
@@ -266,5 +330,7 @@ int main(int argc, char **argv)
     }
     for (size_t count = 1; count <= LOCKER_MOST_ORDINALS; count *= 8)
         measure_starts(count);
+    for (size_t count = 0; count < LOCKER_WAITING; count = 2 * count + 1)
+        measure_tracker(count);
     return same ? 0 : 1;
 }

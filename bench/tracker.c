@@ -25,8 +25,10 @@ static int sound(const struct tracker *t) {
         uint64_t held = t->slots[s].number;
         if (t->lengths[s] + (held != 0) > 32 || t->lengths[s] > 32) return 0;
         if (held != 0 && held >= t->next) return 0;
-        for (uint64_t i = 0; i < t->lengths[s]; i++)
+        for (uint64_t i = 0; i < t->lengths[s]; i++) {
             if (t->numbers[s * 32 + i] >= t->next) return 0;
+            if (i > 0 && t->numbers[s * 32 + i] < t->numbers[s * 32 + i - 1]) return 0;
+        }
     }
     return 1;
 }
@@ -49,6 +51,16 @@ static void push(struct tracker *t, uint64_t shard, uint64_t number, int8_t delt
     t->deltas[at] = delta;
 }
 
+static void insert(struct tracker *t, uint64_t shard, uint64_t number, int8_t delta) {
+    uint64_t base = shard * 32, at = base + t->lengths[shard]++;
+    for (; at > base && t->numbers[at - 1] > number; at--) {
+        t->numbers[at] = t->numbers[at - 1];
+        t->deltas[at] = t->deltas[at - 1];
+    }
+    t->numbers[at] = number;
+    t->deltas[at] = delta;
+}
+
 static int record(struct tracker *t, uint64_t shard, int8_t delta) {
     if (!sound(t)) return 28;
     if (shard > 15) return 14;
@@ -63,7 +75,7 @@ static int complete(struct tracker *t, uint64_t shard, uint64_t number, int8_t d
     if (shard > 15) return 14;
     if (number == 0 || t->slots[shard].number != number) return -1;
     t->slots[shard].number = 0;
-    if (delta != 0) push(t, shard, number, delta);
+    if (delta != 0) insert(t, shard, number, delta);
     return 0;
 }
 

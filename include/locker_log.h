@@ -136,13 +136,13 @@ struct locker_slot {
 };
 
 /* A slot for each shard, and its waiting deltas: shard s waits at the places from 32 * s on of `numbers` and `deltas`,
- * as many as lengths[s] says, in the order in which they joined. What lies past a queue's length is no state: no answer
+ * as many as lengths[s] says, in the order of their numbers. What lies past a queue's length is no state: no answer
  * depends on it, and a call may leave anything there. `next` is the number that is given next.
  *
- * A tracker is sound if each length is at most 32, and at most 31 beside an open slot, `next` is at least 1, and every
- * open or waiting number is below `next`. locker_tracker_fresh makes a sound one, and every call on a sound one leaves
- * it sound; on any other, as a damaged copy may be, each call gives 28. The cells are the caller's to look at, to keep
- * and to set. */
+ * A tracker is sound if each length is at most 32, and at most 31 beside an open slot, `next` is at least 1, every open
+ * or waiting number is below `next`, and the numbers of each queue ascend, of which some may be equal.
+ * locker_tracker_fresh makes a sound one, and every call on a sound one leaves it sound; on any other, as a damaged copy
+ * may be, each call gives 28. The cells are the caller's to look at, to keep and to set. */
 struct locker_tracker {
     struct locker_slot slots[LOCKER_SHARDS];
     uint64_t numbers[LOCKER_SHARDS * LOCKER_WAITING];
@@ -265,21 +265,22 @@ uint32_t locker_tracker_reserve(struct locker_tracker *t, size_t shard, uint64_t
 uint32_t locker_tracker_record(struct locker_tracker *t, size_t shard, int8_t delta, uint64_t *number);
 
 /* Finishes the reservation with that number. If the shard's slot has it and it isn't 0, the slot becomes idle, of
- * which only its number changes, a delta that isn't 0 waits at the back of the shard's queue under that number, and
- * *done is 1. Otherwise the number is stale, no cell changes, and *done is 0. Refuses 28, 14. */
+ * which only its number changes, a delta that isn't 0 waits in the shard's queue under that number, behind its equals
+ * and before what is larger, and *done is 1. Otherwise the number is stale, no cell changes, and *done is 0. Refuses
+ * 28, 14. */
 uint32_t locker_tracker_complete(struct locker_tracker *t, size_t shard, uint64_t number, int8_t delta, uint64_t *done);
 
 /* The same without a delta: nothing waits. Refuses 28, 14. */
 uint32_t locker_tracker_abandon(struct locker_tracker *t, size_t shard, uint64_t number, uint64_t *done);
 
 /* The cursor is the least (ordinal, offset) over the open slots, else the active ordinal and the used count that are
- * passed. The limit is the least open number, else LOCKER_NO_LIMIT. The sum adds each shard's deltas from the front of
- * its queue and stops at the first number at or above the limit. Refuses 28. */
+ * passed. The limit is the least open number, else LOCKER_NO_LIMIT. The sum adds every waiting delta whose number is
+ * below the limit. Refuses 28. */
 uint32_t locker_tracker_checkpoint(const struct locker_tracker *t, uint64_t ordinal, uint64_t used,
                                    struct locker_progress *progress);
 
-/* Removes from the front of each shard's queue what is below the limit, up to the first number that isn't, and tells
- * the removed deltas' *sum: with a checkpoint's limit, the checkpoint's sum. Any limit may be passed. Refuses 28. */
+/* Removes every waiting delta whose number is below the limit, and tells the removed deltas' *sum: with a checkpoint's
+ * limit, the checkpoint's sum. Any limit may be passed. Refuses 28. */
 uint32_t locker_tracker_drain(struct locker_tracker *t, uint64_t limit, int64_t *sum);
 
 /* Zeroes every slot and empties every queue. The next number stays, so that earlier ones are stale. Refuses 28. */

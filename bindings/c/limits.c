@@ -842,6 +842,18 @@ static void wait_on(struct locker_tracker *t, size_t shard, uint64_t number, int
     t->deltas[at] = delta;
 }
 
+/* The same in the order of numbers, behind its equals: from the back on before each that is larger. */
+static void wait_in_order(struct locker_tracker *t, size_t shard, uint64_t number, int8_t delta) {
+    wait_on(t, shard, number, delta);
+    size_t base = shard * LOCKER_WAITING;
+    for (size_t at = base + t->lengths[shard] - 1; at > base && t->numbers[at - 1] > number; at--) {
+        t->numbers[at] = t->numbers[at - 1];
+        t->deltas[at] = t->deltas[at - 1];
+        t->numbers[at - 1] = number;
+        t->deltas[at - 1] = delta;
+    }
+}
+
 static void open_slot(struct locker_tracker *t, size_t shard, uint64_t number, uint64_t ordinal, uint64_t offset) {
     t->slots[shard] = (struct locker_slot){number, ordinal, offset};
 }
@@ -854,8 +866,8 @@ static struct locker_tracker tracker_with(size_t shard, size_t count, bool open,
     return t;
 }
 
-/* Trackers that aren't sound, each by one cell. They are made on shard 0 and on shard 15. */
-enum { UNSOUND = 14 };
+/* Trackers that aren't sound, each in one way. They are made on shard 0 and on shard 15. */
+enum { UNSOUND = 16 };
 
 static struct locker_tracker unsound(size_t which, size_t shard) {
     struct locker_tracker t = tracker_with(shard, 3, false, 50);
@@ -870,17 +882,19 @@ static struct locker_tracker unsound(size_t which, size_t shard) {
     case 6: t.lengths[shard] = base == 0 ? UINT64_MAX - 31 : UINT64_MAX - base + 1; break; /* base + length wraps */
     case 7: t.slots[shard].number = 50; break;
     case 8: t.slots[shard].number = UINT64_MAX; break;
-    case 9: t.numbers[base] = 50; break;
+    case 9: t.numbers[base] = 50, t.lengths[shard] = 1; break;
     case 10: t.numbers[base + 2] = UINT64_MAX; break;
     case 11: t = tracker_with(shard, 32, true, 50); break;
     case 12: t = tracker_with(shard, 32, false, 32); break;
+    case 13: t.numbers[base] = 3; break;
+    case 14: t.numbers[base + 2] = 1; break;
     default: t = tracker_with(shard, 1, true, 40);
     }
     return t;
 }
 
 /* Sound ones, each as near to not being so as it can be. */
-enum { SOUND = 11 };
+enum { SOUND = 14 };
 
 static struct locker_tracker sound(size_t which, size_t shard) {
     struct locker_tracker t = tracker_with(shard, 3, false, 50);
@@ -891,11 +905,14 @@ static struct locker_tracker sound(size_t which, size_t shard) {
     case 2: return tracker_with(shard, 32, false, 33);
     case 3: return tracker_with(shard, 31, true, 41);
     case 4: t.slots[shard].number = 49; break;
-    case 5: t.numbers[base] = 49; break;
+    case 5: t.numbers[base] = 49, t.lengths[shard] = 1; break;
     case 6: t.numbers[base + 2] = 49; break;
-    case 7: t.numbers[base + 1] = 0; break;
+    case 7: t.numbers[base] = 0; break;
     case 8: t.numbers[base + 3] = 50; break;
     case 9: t.slots[shard] = (struct locker_slot){0, UINT64_MAX, UINT64_MAX}; break;
+    case 10: t.numbers[base] = 2; break;
+    case 11: t.numbers[base + 2] = 2; break;
+    case 12: t.numbers[base + 3] = 0; break;
     default: t.next = UINT64_MAX, t.slots[shard].number = UINT64_MAX - 1;
     }
     return t;
@@ -942,6 +959,16 @@ static void try_is_sound(void) {
             CHECK(locker_tracker_is_sound(&t) == (count <= 32));
             t.slots[shard].number = UINT64_MAX - 1;
             CHECK(locker_tracker_is_sound(&t) == (count <= 31));
+        }
+        /* any place of a queue of any length: a number may equal the one before it, and be no smaller */
+        for (size_t count = 2; count <= 32; count++) {
+            for (size_t at = 1; at < count; at++) {
+                struct locker_tracker t = tracker_with(shard, count, false, 50);
+                t.numbers[shard * LOCKER_WAITING + at] = at;
+                CHECK(locker_tracker_is_sound(&t) == true);
+                t.numbers[shard * LOCKER_WAITING + at] = at - 1;
+                CHECK(locker_tracker_is_sound(&t) == false);
+            }
         }
     }
 }
@@ -1222,13 +1249,13 @@ static void try_record(void) {
     CHECK(tell_one(&t, RECORD, 15, 0, 1, &told) == LOCKER_NO_WAITING_ROOM);
 }
 
-/* Done: the slot is idle, of which only its number changed, and a delta that isn't 0 waits. */
+/* Done: the slot is idle, of which only its number changed, and a delta that isn't 0 waits behind its equals. */
 static bool done(const struct locker_tracker *t, enum call call, size_t shard, uint64_t number, int8_t delta) {
     uint64_t told;
     struct locker_tracker wanted = *t;
     if (tell_one(t, call, shard, number, delta, &told) != LOCKER_ACCEPTED) return false;
     wanted.slots[shard].number = 0;
-    if (call == COMPLETE && delta != 0) wait_on(&wanted, shard, number, delta);
+    if (call == COMPLETE && delta != 0) wait_in_order(&wanted, shard, number, delta);
     return told == 1 && same_state(&lent.t, &wanted) && locker_tracker_is_sound(&lent.t);
 }
 
@@ -1258,6 +1285,21 @@ static void try_finish(enum call call) {
             CHECK(stale(&t, call, shard, 49, 1));
             CHECK(stale(&t, call, shard, UINT64_MAX, 1));
             CHECK(stale(&t, call, (shard + 1) % LOCKER_SHARDS, 40, 1));
+        }
+    }
+    /* beside 2, 4, 6 and so on every number up to one above the last, and a queue of equals */
+    for (size_t count = 0; count < 32; count++) {
+        for (uint64_t number = 1; number <= 2 * count + 1; number++) {
+            t = tracker_from(70);
+            for (size_t i = 1; i <= count; i++) wait_on(&t, 9, 2 * i, (int8_t)i);
+            open_slot(&t, 9, number, 6, 96);
+            CHECK(done(&t, call, 9, number, -1));
+        }
+        t = tracker_from(70);
+        for (size_t i = 1; i <= count; i++) wait_on(&t, 9, 40, (int8_t)i);
+        for (uint64_t number = 39; number <= 41; number++) {
+            open_slot(&t, 9, number, 6, 96);
+            CHECK(done(&t, call, 9, number, -1));
         }
     }
     t = tracker_with(0, 31, true, 50);
@@ -1331,15 +1373,16 @@ static void try_checkpoint(void) {
     open_slot(&t, 5, 40, 5, 0);
     t.slots[6] = (struct locker_slot){0, 0, 0};
     CHECK(progress_is(&t, 4, 80, 0, 10, 1));
-    /* a queue stops at the first number at or above the limit, though smaller ones stand behind it */
+    /* every number below the limit counts, and no other */
+    wait_on(&t, 0, 3, 4);
     wait_on(&t, 0, 9, 1);
     wait_on(&t, 0, 10, 2);
-    wait_on(&t, 0, 3, 4);
     wait_on(&t, 15, 0, 8);
     wait_on(&t, 15, 9, 16);
     wait_on(&t, 15, 11, 32);
-    CHECK(progress_is(&t, 4, 80, 25, 10, 1));
-    /* document 01: shard 0 reserves 1, shard 1 reserves 2, shard 0 records 3, then completes 1 with delta 1 */
+    CHECK(progress_is(&t, 4, 80, 29, 10, 1));
+    /* document 01: shard 0 reserves 1, shard 1 reserves 2, shard 0 records 3, then completes 1 with delta 1; by document
+     * 02's request 6 the delta of number 1 counts */
     uint64_t number;
     struct locker_reserved reserved;
     t = tracker_from(1);
@@ -1351,7 +1394,7 @@ static void try_checkpoint(void) {
     t = lent.t;
     CHECK(tell_one(&t, COMPLETE, 0, 1, 1, &number) == LOCKER_ACCEPTED && number == 1);
     t = lent.t;
-    CHECK(progress_is(&t, 1, 16, 0, 2, 1));
+    CHECK(progress_is(&t, 1, 16, 1, 2, 1));
     /* the least and the greatest sum */
     for (int extreme = 0; extreme < 2; extreme++) {
         t = tracker_from(UINT64_MAX);
@@ -1396,16 +1439,15 @@ static void try_drain(void) {
             }
         }
     }
-    /* it stops where a checkpoint's sum does */
+    /* it takes what a checkpoint's sum does */
     t = tracker_from(50);
+    wait_on(&t, 0, 3, 4);
     wait_on(&t, 0, 9, 1);
     wait_on(&t, 0, 10, 2);
-    wait_on(&t, 0, 3, 4);
     wait_on(&t, 7, 9, -8);
     struct locker_tracker wanted = tracker_from(50);
     wait_on(&wanted, 0, 10, 2);
-    wait_on(&wanted, 0, 3, 4);
-    CHECK(drain(&t, 10, &sum) == LOCKER_ACCEPTED && sum == -7);
+    CHECK(drain(&t, 10, &sum) == LOCKER_ACCEPTED && sum == -3);
     CHECK(same_state(&lent.t, &wanted));
     /* drained places are used again */
     t = tracker_with(15, 32, false, 50);

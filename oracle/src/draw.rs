@@ -641,26 +641,42 @@ impl Draw {
             let most = if state.slots[shard].number == 0 { 32 } else { 31 };
             let count = self.rng.pick(&[0, 0, 0, 1, 2, 5, most - 1, most]);
             state.queues[shard] = (0..count).map(|_| (self.below_next(state.next), self.delta().into())).collect();
+            // Even numbers alone, so that more of them are equal.
             if self.rng.once_in(2) {
-                state.queues[shard].sort_unstable();
+                state.queues[shard].iter_mut().for_each(|(number, _)| *number -= *number % 2);
             }
+            state.queues[shard].sort_by_key(|&(number, _)| number);
         }
         state
     }
 
-    /// A state that lacks one thing of a sound one.
+    /// A state that lacks one thing of a sound one. A queue that doesn't ascend falls once, at its first pair or at its last.
     fn unsound_state(&mut self) -> State {
         let mut state = self.sound_state();
         let shard = self.rng.below(16) as usize;
-        match self.rng.below(5) {
+        match self.rng.below(6) {
             0 => state.next = 0,
             1 => state.slots[shard].number = state.next,
             2 => state.queues[shard] = vec![(state.next, 1)],
             3 => state.queues[shard] = vec![(0, 1); 33],
-            _ => {
+            4 => {
                 state.next = state.next.max(2);
                 state.slots[shard].number = 1;
                 state.queues[shard] = vec![(0, 1); 32];
+            }
+            _ => {
+                let queue = &mut state.queues[shard];
+                let one = queue.len().min(1);
+                if shard % 2 == 0 {
+                    queue.rotate_left(one);
+                } else {
+                    queue.rotate_right(one);
+                }
+                if crate::paper::ascends(&state) {
+                    state.next = state.next.max(2);
+                    state.slots[shard].number = 0;
+                    state.queues[shard] = vec![(1, 1), (0, 1)];
+                }
             }
         }
         state

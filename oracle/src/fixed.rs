@@ -193,6 +193,40 @@ fn full_queues() -> Calls {
     }))
 }
 
+/// Into a queue of every length under 32, with the numbers 2, 4, 6 and so on, every number up to one above the last: each
+/// place, and each place behind an equal.
+fn completions() -> Calls {
+    Box::new((0..32u64).flat_map(|count| {
+        (1..2 * count + 2).map(move |number| {
+            let mut state = State { next: 70, ..fresh_state() };
+            state.queues[3] = (1..=count).map(|i| (2 * i, i as i64)).collect();
+            state.slots[3] = Slot { number, ordinal: 1, offset: 16 };
+            Call::Track { state: Box::new(state), step: Step::Complete { shard: 3, number, delta: -1 } }
+        })
+    }))
+}
+
+/// Queues of every length that ascend but for one pair, wherever it stands.
+fn descents() -> Calls {
+    Box::new((2..=32u64).flat_map(|count| {
+        (1..count).flat_map(move |pair| {
+            let mut state = State { next: 70, ..fresh_state() };
+            state.queues[15] = (1..=count).map(|i| (i, 1)).collect();
+            state.queues[15].swap(pair as usize - 1, pair as usize);
+            let steps = vec![
+                Step::Reserve { shard: 0, ordinal: 1, used: 0, capacity: 64, sealed: false, length: 16 },
+                Step::Record { shard: 0, delta: 1 },
+                Step::Complete { shard: 0, number: 1, delta: 1 },
+                Step::Abandon { shard: 0, number: 1 },
+                Step::Checkpoint { ordinal: 1, used: 0 },
+                Step::Drain { limit: 20 },
+                Step::Clear,
+            ];
+            steps.into_iter().map(move |step| Call::Track { state: Box::new(state.clone()), step })
+        })
+    }))
+}
+
 /// Space: used count, length and capacity around each other, and around 2^64.
 fn reserve_limits() -> Calls {
     let numbers = [0, 1, 15, 16, 17, 32, 48, 1 << 63, u64::MAX - 31, u64::MAX - 15, u64::MAX];
@@ -409,6 +443,8 @@ pub fn calls() -> impl Iterator<Item = Call> {
         short_walks(),
         all_sums_of_one_entry(),
         sums(),
+        completions(),
+        descents(),
     ];
     groups.into_iter().flatten()
 }

@@ -14,7 +14,7 @@ use original::{Buffer, Failure, File, Found, Tracker};
 use crate::{
     calls::{eight, up16, Call, Region, Said, State, Step, HEADER, MAX_REGION},
     library::{listing, window},
-    paper::sound,
+    paper::{ascends, fits},
 };
 
 /// The answer that is right, and the parting's name where the original doesn't give it.
@@ -39,7 +39,13 @@ fn parted(said: Said, name: &'static str) -> Judgement {
 const LARGEST_HINT: u64 = 1 << 20;
 
 /// Document 02's request 4: the one parting of a read that both sides accept.
-pub const UPDATE_READ: &str = "read: an update (told as an insert)";
+const UPDATE_READ: &str = "read: an update (told as an insert)";
+
+/// Document 02's request 6: a completion that both sides accept, with the delta at different places.
+const JOINS_BACK: &str = "complete: a larger number waits (joins the back)";
+
+/// Partings in which both sides accept, so that the answer is one to be kept to.
+pub const ACCEPTED: [&str; 2] = [UPDATE_READ, JOINS_BACK];
 
 /// How much the original's walk reads at once.
 const READ_BUFFER: u64 = 128 * 1024;
@@ -672,7 +678,7 @@ fn start_file(ordinals: &[u64], cursor: u64) -> Judgement {
 impl Judge {
     fn track(&mut self, state: &State, step: &Step) -> Judgement {
         let refused = |number| Said { number, state: Some(Box::new(state.clone())), ..Default::default() };
-        if !sound(state) {
+        if !fits(state) {
             return parted(refused(28), "tracker: value not sound (no counterpart)");
         }
         // In a trace the tracker is as the last call left it, and isn't touched.
@@ -681,7 +687,8 @@ impl Judge {
         }
         let outside = tracker_parting(state, step);
         let answer = self.step(state, step, outside.is_some());
-        if let Some((number, name)) = outside {
+        let falls = (!ascends(state)).then_some((28, "tracker: a queue that doesn't ascend (taken as it stands)"));
+        if let Some((number, name)) = falls.or(outside) {
             let left = self.tracker.state();
             self.tracker.set_state(state);
             takes_a_number(state, step, &left)?;
@@ -700,7 +707,23 @@ impl Judge {
         if said.number != 0 && self.tracker.state() != *state {
             return Err("tracker: refused, and the state changed".to_string());
         }
-        same(Said { state: Some(Box::new(self.tracker.state())), ..said })
+        match goes_in(state, step) {
+            Some((shard, item)) => self.in_order(state, shard, item, said),
+            None => same(Said { state: Some(Box::new(self.tracker.state())), ..said }),
+        }
+    }
+
+    /// A delta that is completed beside larger numbers: the original puts it at the back. Its queue sorted by number, where
+    /// equals keep their order, is the right one.
+    fn in_order(&self, state: &State, shard: usize, item: (u64, i64), said: Said) -> Judgement {
+        let mut left = self.tracker.state();
+        let queue = &mut left.queues[shard];
+        note(&format!("waiting {queue:?}"));
+        if *queue != [&state.queues[shard][..], &[item]].concat() {
+            return Err(format!("complete: not at the back, but {queue:?}"));
+        }
+        queue.sort_by_key(|&(number, _)| number);
+        parted(Said { state: Some(Box::new(left)), ..said }, JOINS_BACK)
     }
 
     /// The original's answer. Outside the domain only what the list says it does is looked at.
@@ -799,7 +822,16 @@ fn takes_a_number(state: &State, step: &Step, left: &State) -> Result<(), String
     }
 }
 
-/// The refusals that the original doesn't have, and the one parting without a refusal (0).
+/// The shard where a delta is completed beside a larger number, and what goes in.
+fn goes_in(state: &State, step: &Step) -> Option<(usize, (u64, i64))> {
+    let Step::Complete { shard, number, delta } = *step else { return None };
+    let shard = shard as usize;
+    let held = state.slots[shard].number == number && number != 0 && delta != 0;
+    let larger = state.queues[shard].iter().any(|&(waiting, _)| waiting > number);
+    (held && larger).then_some((shard, (number, delta.into())))
+}
+
+/// The refusals that the original doesn't have, and the one parting that is Stale here (0).
 fn tracker_parting(state: &State, step: &Step) -> Option<(u32, &'static str)> {
     let shard = match *step {
         Step::Reserve { shard, .. }

@@ -1,4 +1,4 @@
-//! Document 01 written out as a plain program, with document 02's requests 4 and 5: a third opinion, and the place
+//! Document 01 written out as a plain program, with document 02's requests 4 to 6: a third opinion, and the place
 //! where `oracle/awake` plants its slips. With no slip it has to agree with the original as the library does.
 use std::collections::BTreeSet;
 
@@ -52,7 +52,6 @@ pub const SLIPS: &[(&str, &str)] = &[
     ("end-capped", "durable end: is capped at the region's length"),
     ("tracker-number-reused", "record: the next number isn't taken"),
     ("tracker-limit-included", "checkpoint: the limit itself is counted"),
-    ("tracker-stop-ignored", "checkpoint and drain: every small number is summed"),
     ("tracker-cursor-offset", "checkpoint: the least offset, whatever the ordinal"),
     ("tracker-limit-greatest", "checkpoint: the limit is the greatest open number"),
     ("tracker-zero-queued", "complete: a delta of 0 is queued"),
@@ -67,6 +66,10 @@ pub const SLIPS: &[(&str, &str)] = &[
     ("tracker-clear-next", "clear: the next number becomes 1"),
     ("tracker-drain-keeps", "drain: sums but removes nothing"),
     ("tracker-order-swapped", "reserve: 5 is given before 15"),
+    ("tracker-joins-back", "complete: the delta joins the back of its queue, as in the original"),
+    ("tracker-before-equals", "complete: the delta goes in before its equals"),
+    ("tracker-descent-taken", "a queue that doesn't ascend is sound"),
+    ("tracker-equals-unsound", "a queue with equal numbers isn't sound"),
     ("replay-unrounded", "replay: the size isn't rounded up"),
     ("replay-tombstone-ten", "replay: a tombstone is measured as a data entry"),
     ("start-above", "start file: the smallest above the cursor's ordinal"),
@@ -532,7 +535,7 @@ impl Side for Paper {
 
 /// Document 01: a value is sound if each queue length is at most 32, and at most 31 beside an open slot, the next number
 /// is at least 1, and every open or waiting number is below it.
-pub fn sound(state: &State) -> bool {
+pub fn fits(state: &State) -> bool {
     state.next >= 1
         && state.slots.iter().zip(&state.queues).all(|(slot, queue)| {
             queue.len() + usize::from(slot.number != 0) <= 32
@@ -541,10 +544,32 @@ pub fn sound(state: &State) -> bool {
         })
 }
 
+/// Any two neighbours in a queue stand in the right order.
+fn neighbours(state: &State, right: impl Fn(u64, u64) -> bool) -> bool {
+    state.queues.iter().all(|queue| queue.windows(2).all(|pair| right(pair[0].0, pair[1].0)))
+}
+
+/// Document 02's request 6: each queue ascends, equal numbers allowed.
+pub fn ascends(state: &State) -> bool {
+    neighbours(state, |before, behind| before <= behind)
+}
+
+pub fn sound(state: &State) -> bool {
+    fits(state) && ascends(state)
+}
+
 impl Paper {
+    fn sound(&self, state: &State) -> bool {
+        match self.slip {
+            "tracker-descent-taken" => fits(state),
+            "tracker-equals-unsound" => fits(state) && neighbours(state, |before, behind| before < behind),
+            _ => sound(state),
+        }
+    }
+
     fn track(&self, state: &State, step: &Step) -> Said {
         let mut after = state.clone();
-        let answer = if sound(state) { self.step(&mut after, step) } else { Err(28) };
+        let answer = if self.sound(state) { self.step(&mut after, step) } else { Err(28) };
         match answer {
             Ok(values) => Said { values, state: Some(Box::new(after)), ..Default::default() },
             Err(number) => Said { number, state: Some(Box::new(state.clone())), ..Default::default() },
@@ -646,18 +671,24 @@ impl Paper {
             *slot = Slot::default();
         }
         if delta != 0 || self.slips("tracker-zero-queued") {
-            t.queues[shard as usize].push((number, delta.into()));
+            let queue = &mut t.queues[shard as usize];
+            queue.insert(self.place_in(queue, number), (number, delta.into()));
         }
         Ok(vec![1])
+    }
+
+    /// Where a completed delta goes in its queue: behind its equals.
+    fn place_in(&self, queue: &[(u64, i64)], number: u64) -> usize {
+        match self.slip {
+            "tracker-joins-back" => queue.len(),
+            "tracker-before-equals" => queue.iter().filter(|&&(waiting, _)| waiting < number).count(),
+            _ => queue.iter().filter(|&&(waiting, _)| waiting <= number).count(),
+        }
     }
 
     /// How many deltas of a queue count under a limit, and their sum.
     fn counted(&self, queue: &[(u64, i64)], limit: u64, included: bool) -> (usize, i64) {
         let counts = |number: u64| number < limit || (included && number == limit);
-        if self.slips("tracker-stop-ignored") {
-            let sum = queue.iter().filter(|&&(number, _)| counts(number)).map(|&(_, delta)| delta).sum();
-            return (queue.iter().take_while(|&&(number, _)| counts(number)).count(), sum);
-        }
         let front = queue.iter().take_while(|&&(number, _)| counts(number));
         front.fold((0, 0), |(count, sum), &(_, delta)| (count + 1, sum + delta))
     }

@@ -7,7 +7,7 @@ use crate::{
     codec::{write_said, write_state, Record, Records},
     draw::{entry, fresh_state, Draw},
     fixed,
-    judge::{Judge, UPDATE_READ},
+    judge::{Judge, ACCEPTED},
     library::Side,
     table::grouped,
 };
@@ -68,7 +68,7 @@ impl Recorder {
 
     fn write(&mut self, call: &Call, sparing: bool) {
         let Ok(judged) = self.judge.judge(call) else { return };
-        if judged.parting.is_some_and(|name| name != UPDATE_READ) {
+        if judged.parting.is_some_and(|name| !ACCEPTED.contains(&name)) {
             return;
         }
         let mut bytes = Vec::new();
@@ -103,7 +103,7 @@ impl Recorder {
             let Ok(judged) = self.judge.judge(&call) else { continue };
             draw.learn(&judged.said);
             state = judged.said.state.clone().unwrap_or(from);
-            if judged.parting.is_some() {
+            if judged.parting.is_some_and(|name| !ACCEPTED.contains(&name)) {
                 continue;
             }
             call.parts().write_call(&mut self.out);

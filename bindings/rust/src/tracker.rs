@@ -31,8 +31,8 @@ pub struct Slot {
 /// A tracker's own cells, as the library lays them out. Any of them may hold anything: where they are no sound tracker, every
 /// call gives [`Refusal::NotSound`].
 ///
-/// Shard `s` waits at the places from `32 * s` on of `numbers` and `deltas`, as many as `lengths[s]` says, in the order in
-/// which they joined. What lies past a queue's length is no state.
+/// Shard `s` waits at the places from `32 * s` on of `numbers` and `deltas`, as many as `lengths[s]` says, in the order of
+/// their numbers. What lies past a queue's length is no state.
 #[repr(C)]
 #[derive(Clone, Debug, PartialEq, Eq, Hash)]
 pub struct Cells {
@@ -81,7 +81,7 @@ pub struct Progress {
     pub ordinal: u64,
     /// The cursor's place in that file.
     pub offset: u64,
-    /// The waiting deltas' sum, of each queue from its front up to the first number at or above the limit.
+    /// The sum of every waiting delta whose number is below the limit.
     pub sum: i64,
     /// The least open number, else [`NO_LIMIT`].
     pub limit: u64,
@@ -221,8 +221,8 @@ impl Tracker {
         &self.cells.slots
     }
 
-    /// The deltas that wait on a shard, from the front of its queue on: none for a shard over 15, and at most thirty-two, even
-    /// where an unsound tracker's length says more.
+    /// The deltas that wait on a shard, from the front of its queue on, which is the order of their numbers in a sound tracker:
+    /// none for a shard over 15, and at most thirty-two, even where an unsound tracker's length says more.
     pub fn waiting(&self, shard: usize) -> impl DoubleEndedIterator<Item = Delta> + ExactSizeIterator + '_ {
         let length = self.cells.lengths.get(shard).map_or(0, |length| (*length).min(WAITING as u64) as usize);
         let from = if length == 0 { 0 } else { shard * WAITING };
@@ -236,8 +236,9 @@ impl Tracker {
         self.cells.next
     }
 
-    /// Whether each queue length is at most 32, and at most 31 beside an open slot, the next number is at least 1, and every
-    /// open or waiting number is below it. Calls on a sound tracker leave it sound, and on any other give 28.
+    /// Whether each queue length is at most 32, and at most 31 beside an open slot, the next number is at least 1, every open
+    /// or waiting number is below it, and the numbers of each queue ascend, of which some may be equal. Calls on a sound tracker
+    /// leave it sound, and on any other give 28.
     pub fn is_sound(&self) -> bool {
         // SAFETY: cells of our own.
         unsafe { sys::locker_tracker_is_sound(&self.cells) }
@@ -264,8 +265,8 @@ impl Tracker {
         Refusal::check(number).map(|()| taken)
     }
 
-    /// Finishes the reservation with that number: its slot becomes idle, and a delta that isn't 0 waits at the back of the
-    /// shard's queue under that number. Refuses 28, 14.
+    /// Finishes the reservation with that number: its slot becomes idle, and a delta that isn't 0 waits in the shard's queue
+    /// under that number, behind its equals and before what is larger. Refuses 28, 14.
     pub fn complete(&mut self, shard: usize, number: u64, delta: i8) -> Result<Finished, Refusal> {
         let mut done = 0;
         // SAFETY: cells that are ours to change, and a number of our own.
@@ -290,8 +291,8 @@ impl Tracker {
         Refusal::check(number).map(|()| Progress { ordinal, offset, sum, limit, pending: pending != 0 })
     }
 
-    /// Removes from the front of each queue what is below the limit, up to the first number that isn't, and answers its sum:
-    /// with a checkpoint's limit, the checkpoint's sum. Refuses 28.
+    /// Removes every waiting delta whose number is below the limit, and answers their sum: with a checkpoint's limit, the
+    /// checkpoint's sum. Refuses 28.
     pub fn drain(&mut self, limit: u64) -> Result<i64, Refusal> {
         let mut sum = 0;
         // SAFETY: cells that are ours to change, and a number of our own.

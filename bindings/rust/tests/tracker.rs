@@ -45,6 +45,11 @@ fn unsound() -> Vec<Cells> {
             waits.numbers[shard * WAITING + 2] = number;
             all.extend([open, waits]);
         }
+        for (place, number) in [(0, 3), (1, 4), (2, 0)] {
+            let mut falls = with(shard, 3, false);
+            falls.numbers[shard * WAITING + place] = number;
+            all.push(falls);
+        }
     }
     all
 }
@@ -84,14 +89,15 @@ fn document_01s_trial() {
     assert_eq!((second.number, second.place, second.used), (2, 16, 32));
     assert_eq!(tracker.record(0, 5), Ok(3));
     assert_eq!(tracker.complete(0, 1, 1), Ok(Finished::Done));
-    assert_eq!(waits(&tracker, 0), [(3, 5), (1, 1)]);
+    assert_eq!(waits(&tracker, 0), [(1, 1), (3, 5)]);
     let progress = tracker.checkpoint(1, 32).unwrap();
-    assert_eq!(progress, Progress { ordinal: 1, offset: 16, sum: 0, limit: 2, pending: true });
-    assert_eq!(tracker.drain(progress.limit), Ok(0));
+    // document 02's request 6: the delta of number 1 counts
+    assert_eq!(progress, Progress { ordinal: 1, offset: 16, sum: 1, limit: 2, pending: true });
+    assert_eq!(tracker.drain(progress.limit), Ok(1));
     assert_eq!(tracker.abandon(1, 2), Ok(Finished::Done));
     let progress = tracker.checkpoint(1, 32).unwrap();
-    assert_eq!(progress, Progress { ordinal: 1, offset: 32, sum: 6, limit: NO_LIMIT, pending: true });
-    assert_eq!(tracker.drain(progress.limit), Ok(6));
+    assert_eq!(progress, Progress { ordinal: 1, offset: 32, sum: 5, limit: NO_LIMIT, pending: true });
+    assert_eq!(tracker.drain(progress.limit), Ok(5));
     assert!(!tracker.checkpoint(1, 32).unwrap().pending);
 }
 
@@ -184,9 +190,31 @@ fn complete_and_abandon_at_their_limits() {
 }
 
 #[test]
-fn checkpoint_and_drain_stop_at_the_limit() {
+fn a_completed_delta_waits_behind_its_equals() {
+    for number in 1..=9 {
+        let mut cells = cells(50);
+        let before = [(2, 1), (4, 2), (4, 3), (4, 4), (8, 5)];
+        for (i, (number, delta)) in before.into_iter().enumerate() {
+            cells.numbers[15 * WAITING + i] = number;
+            cells.deltas[15 * WAITING + i] = delta;
+        }
+        cells.lengths[15] = 5;
+        cells.slots[15].number = number;
+        let mut tracker = Tracker::from_cells(cells);
+        assert_eq!(tracker.complete(15, number, -1), Ok(Finished::Done));
+        let mut wanted = before.to_vec();
+        wanted.push((number, -1));
+        // a stable sort: what came last stands last among its equals
+        wanted.sort_by_key(|&(number, _)| number);
+        assert_eq!(waits(&tracker, 15), wanted);
+        assert!(tracker.is_sound());
+    }
+}
+
+#[test]
+fn checkpoint_and_drain_take_every_number_below_the_limit() {
     let mut cells = cells(50);
-    for (shard, waiting) in [(0, [(9, 1), (10, 2), (3, 4)]), (15, [(0, 8), (9, 16), (11, 32)])] {
+    for (shard, waiting) in [(0, [(3, 4), (9, 1), (10, 2)]), (15, [(0, 8), (9, 16), (11, 32)])] {
         for (i, (number, delta)) in waiting.into_iter().enumerate() {
             cells.numbers[shard * WAITING + i] = number;
             cells.deltas[shard * WAITING + i] = delta;
@@ -198,14 +226,14 @@ fn checkpoint_and_drain_stop_at_the_limit() {
     }
     let mut tracker = Tracker::from_cells(cells.clone());
     let progress = tracker.checkpoint(9, 160).unwrap();
-    assert_eq!(progress, Progress { ordinal: 4, offset: 80, sum: 25, limit: 10, pending: true });
+    assert_eq!(progress, Progress { ordinal: 4, offset: 80, sum: 29, limit: 10, pending: true });
     assert_eq!(tracker.cells(), &cells);
-    assert_eq!(tracker.drain(progress.limit), Ok(25));
-    assert_eq!(waits(&tracker, 0), [(10, 2), (3, 4)]);
+    assert_eq!(tracker.drain(progress.limit), Ok(29));
+    assert_eq!(waits(&tracker, 0), [(10, 2)]);
     assert_eq!(waits(&tracker, 15), [(11, 32)]);
     assert_eq!(tracker.slots(), &cells.slots);
     assert_eq!(tracker.drain(0), Ok(0));
-    assert_eq!(tracker.drain(NO_LIMIT), Ok(38));
+    assert_eq!(tracker.drain(NO_LIMIT), Ok(34));
     assert_eq!(tracker.waiting(0).len() + tracker.waiting(15).len(), 0);
     // the least and the greatest sum
     for (delta, sum) in [(-128, -65_536), (127, 65_024)] {

@@ -101,6 +101,11 @@ fn read_waiting(file: &[u8], before: Reading) -> Reading {
         return before;
     }
     let mut state = before.tracker;
+    // A cell that is cut off reads as zeros, and queue 0 may be full: the file's end comes first.
+    let behind = cursor::passed(file, c, 10);
+    if behind.fault != cursor::NO_FAULT {
+        return read_on(behind, state);
+    }
     let cell = cursor::part(file, c.at, 10);
     let shard = cursor::byte(cell, 0) as usize;
     if 16 <= shard {
@@ -116,7 +121,7 @@ fn read_waiting(file: &[u8], before: Reading) -> Reading {
     state.numbers[place] = number;
     state.deltas[place] = delta;
     state.lengths[shard] = length + 1;
-    read_on(cursor::passed(file, c, 10), state)
+    read_on(behind, state)
 }
 
 fn read_slots(file: &[u8], before: Reading) -> Reading {

@@ -16,7 +16,7 @@ use Rattle.answers.specs.declared.Verdict.the-variants.{Accepted, Refused as VR
 use Rattle.answers.proofs.Orders.{first-passed}
 use Rattle.tracker.specs.declared.Tracker.{Tracker}
 use Rattle.tracker.specs.declared.FinishAnswer.the-variants.{Done, Stale, Refused}
-use Rattle.tracker.specs.State.{State, view, idle, places, slotOf, joined}
+use Rattle.tracker.specs.State.{State, view, idle, places, slotOf, inserted}
 use Rattle.tracker.specs.Sound.{sound}
 use Rattle.tracker.specs.Finishing.{done, stale, finishTests, finishRefusal, finishOf, matches, madeIdle, abandoned, completed, CompleteMet}
 use Rattle.tracker.proofs.Sounds.{shard-room, sound-shard}
@@ -39,7 +39,7 @@ pub complete-zero : (m : State) (shard number : ℕ) → completed m shard numbe
 unfolding completed
 complete-zero m shard number = by (matches (slotOf m shard) number)
   where
-    by : (b : Bool) → cond (b && false) (joined (abandoned m shard number) shard number (pos 0)) (abandoned m shard number) ≡ abandoned m shard number
+    by : (b : Bool) → cond (b && false) (inserted (abandoned m shard number) shard number (pos 0)) (abandoned m shard number) ≡ abandoned m shard number
     by true = refl
     by false = refl
 
@@ -106,10 +106,10 @@ module _ (t : Tracker) (shard number : ℕ) (delta : ℤ) (s : Bool) (es : s ≡
         pub done-zero : delta ≡ pos 0 → CompleteMet t shard number delta (record { tracker = off; answer = Done })
         done-zero h = change off (off-view ∙ sym (ap (completed (view t) shard number) h ∙ complete-zero (view t) shard number))
 
-        pub done-push : (p : Tracker) → (natAbs delta ≡ 0 → ⊥) → view p ≡ joined (view off) shard number delta
+        pub done-insert : (p : Tracker) → (natAbs delta ≡ 0 → ⊥) → view p ≡ inserted (view off) shard number delta
             → CompleteMet t shard number delta (record { tracker = p; answer = Done })
         unfolding completed
-        done-push p ne h = change p (h ∙ ap (λ (m : State). joined m shard number delta) off-view ∙ sym (rw (hit, ne-eqb (natAbs delta) 0 ne)))
+        done-insert p ne h = change p (h ∙ ap (λ (m : State). inserted m shard number delta) off-view ∙ sym (rw (hit, ne-eqb (natAbs delta) 0 ne)))
 
         -- the open slot has kept a place in the queue
         pub done-room : getD (t .lengths) shard 0 < 32

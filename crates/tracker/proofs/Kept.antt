@@ -2,7 +2,7 @@
 -- Assumes nothing.
 use mathlib.Core.Path.{_≡_, refl, sym, ap, _∙_}
 use mathlib.Core.Bool.{Bool, true, false, cond, not, _&&_, _||_}
-use mathlib.Core.List.{List, [], _∷_, _++_}
+use mathlib.Core.List.{List, []}
 use Prim.Native.Nat.{ℕ, zero, suc, _+_, _≤_, _<_}
 use native.Mathlib.Omega.{arith}
 use native.Mathlib.Decide.{ℕ-discrete}
@@ -19,8 +19,8 @@ use Rattle.tracker.specs.declared.AfterRecord.{AfterRecord}
 use Rattle.tracker.specs.declared.AfterFinish.{AfterFinish}
 use Rattle.tracker.specs.declared.AfterDrain.{AfterDrain}
 use Rattle.tracker.specs.declared.AfterClear.{AfterClear}
-use Rattle.tracker.specs.State.{Waiting, State, view, freshState, slotOf, queue, places, idle, joined, withNext, withSlot}
-use Rattle.tracker.specs.Sound.{every, sound, shardSound}
+use Rattle.tracker.specs.State.{Waiting, State, view, freshState, slotOf, queue, places, idle, withNext, withSlot, withQueue, joined, inserted}
+use Rattle.tracker.specs.Sound.{every, ascends, sound, shardSound}
 use Rattle.tracker.specs.Sums.{countFront, pastFront}
 use Rattle.tracker.specs.Reserving.{reserveRefusal, reserved, ReserveMet}
 use Rattle.tracker.specs.Recording.{recordRefusal, recorded, RecordMet}
@@ -29,7 +29,7 @@ use Rattle.tracker.specs.Outcome.{soundRefusal}
 use Rattle.tracker.specs.Draining.{drained, DrainMet}
 use Rattle.tracker.specs.Clearing.{cleared, ClearMet}
 use Rattle.tracker.proofs.Runs.{and-left, and-right, all-at, all-true, every-snoc, every-drop, every-weaker}
-use Rattle.tracker.proofs.Views.{queues-long}
+use Rattle.tracker.proofs.Ascents.{ascends-snoc, ascends-drop, ascends-behind, every-behind, length-behind}
 use Rattle.tracker.proofs.Reserves.{reserve-free}
 use Rattle.tracker.proofs.Records.{record-free}
 use Rattle.tracker.proofs.Finishes.{finish-free}
@@ -40,15 +40,20 @@ pub record Sound (m : State) : Type 0 where
   pub room : (k : ℕ) → k < 16 → length (queue m k) + places (slotOf m k .number) ≤ 32
   pub slot-below : (k : ℕ) → k < 16 → slotOf m k .number < m .next
   pub queue-below : (k : ℕ) → k < 16 → every (λ (w : Waiting). ltb (w .number) (m .next)) (queue m k) ≡ true
+  pub ascending : (k : ℕ) → k < 16 → ascends (queue m k) ≡ true
+
+-- the tests of a shard's length and slot
+abbrev headOf : State → ℕ → Bool
+headOf m k = leb (length (queue m k) + places (slotOf m k .number)) 32 && (eqb (slotOf m k .number) 0 || ltb (slotOf m k .number) (m .next))
 
 pub sound-facts : (m : State) → sound m ≡ true → Sound m
 unfolding sound shardSound
 sound-facts m e = record {
   live = leb-true 1 (m .next) (and-left _ _ e);
-  room = λ k h. leb-true _ _ (and-left _ _ (and-left _ _ (at k h)));
-  slot-below = λ k h. below (slotOf m k .number) (and-right (leb (length (queue m k) + places (slotOf m k .number)) 32) _ (and-left _ _ (at k h)));
-  queue-below = λ k h.
-      and-right (leb (length (queue m k) + places (slotOf m k .number)) 32 && (eqb (slotOf m k .number) 0 || ltb (slotOf m k .number) (m .next))) _ (at k h);
+  room = λ k h. leb-true _ _ (and-left _ _ (and-left _ _ (and-left _ _ (at k h))));
+  slot-below = λ k h. below (slotOf m k .number) (and-right (leb (length (queue m k) + places (slotOf m k .number)) 32) _ (and-left _ _ (and-left _ _ (at k h))));
+  queue-below = λ k h. and-right (headOf m k) _ (and-left _ _ (at k h));
+  ascending = λ k h. and-right (headOf m k && every (λ (w : Waiting). ltb (w .number) (m .next)) (queue m k)) _ (at k h);
 }
   where
     -- an idle slot's number is 0, and the next number is at least 1
@@ -72,12 +77,17 @@ facts-sound m f = rw (le-leb 1 (m .next) (f .live)) (all-true (shardSound m) 16 
   where
     one : (k : ℕ) → k < 16 → shardSound m k ≡ true
     one k h =
-        rw (le-leb (length (queue m k) + places (slotOf m k .number)) 32 (f .room k h), lt-ltb (slotOf m k .number) (m .next) (f .slot-below k h), or-true (eqb (slotOf m k .number) 0))
-        (f .queue-below k h)
+        rw (le-leb (length (queue m k) + places (slotOf m k .number)) 32 (f .room k h), lt-ltb (slotOf m k .number) (m .next) (f .slot-below k h), or-true (eqb (slotOf m k .number) 0), f .queue-below k h)
+        (f .ascending k h)
 
 below-more : (n n' : ℕ) → n ≤ n' → (l : List Waiting) → every (λ (w : Waiting). ltb (w .number) n) l ≡ true → every (λ (w : Waiting). ltb (w .number) n') l ≡ true
 below-more n n' h =
     every-weaker (λ (w : Waiting). ltb (w .number) n) (λ (w : Waiting). ltb (w .number) n') (λ x e. lt-ltb (x .number) n' (let g : x .number < n = ltb-true _ _ e in omega arith))
+
+-- no number that waits is above the next one
+pub none-above : (m : State) (q : List Waiting) → every (λ (w : Waiting). ltb (w .number) (m .next)) q ≡ true → every (λ (w : Waiting). leb (w .number) (m .next)) q ≡ true
+none-above m =
+    every-weaker (λ (w : Waiting). ltb (w .number) (m .next)) (λ (w : Waiting). leb (w .number) (m .next)) (λ x e. le-leb (x .number) (m .next) (let g : x .number < m .next = ltb-true _ _ e in omega arith))
 
 places-most : (number : ℕ) → places number ≤ 1
 places-most number = by (eqb number 0)
@@ -107,6 +117,7 @@ module _ (m : State) (sh : Shaped m) (s : ℕ) (hs : s < 16) where
     room = λ k h. by-room k h (ℕ-discrete k s);
     slot-below = λ k h. by-below k h (ℕ-discrete k s);
     queue-below = λ k h. below-more (m .next) n hn (queue m k) (f .queue-below k h);
+    ascending = f .ascending;
   }
     where
       by-room : (k : ℕ) → k < 16 → Dec (k ≡ s) → length (queue m k) + places (getD (set (m .slots) s x) k idle .number) ≤ 32
@@ -117,29 +128,45 @@ module _ (m : State) (sh : Shaped m) (s : ℕ) (hs : s < 16) where
       by-below k h (yes e) = rw (e, slot-same x) hx
       by-below k h (no ne) = rw (getD-set-other (m .slots) s k x idle ne) (let g = f .slot-below k h in omega arith)
 
-  abbrev longer : ℕ → ℤ → List Waiting
-  longer j d = queue m s ++ (record { number = j; delta = d } ∷ [])
-
-  -- one entry more at s and a later next number
-  join-sound : (j : ℕ) (d : ℤ) (n : ℕ) → Sound m → m .next ≤ n → j < n → length (queue m s) + places (slotOf m s .number) < 32 → Sound (withNext (joined m s j d) n)
-  unfolding joined
-  join-sound j d n f hn hj hr = record {
+  -- another queue at s and a later next number
+  queue-sound : (q : List Waiting) (n : ℕ) → Sound m → m .next ≤ n → length q + places (slotOf m s .number) ≤ 32 → every (λ (w : Waiting). ltb (w .number) n) q ≡ true → ascends q ≡ true
+      → Sound (withNext (withQueue m s q) n)
+  queue-sound q n f hn hr hb ha = record {
     live = omega (arith, f .live);
     room = λ k h. by-room k h (ℕ-discrete k s);
     slot-below = λ k h. let g = f .slot-below k h in omega arith;
     queue-below = λ k h. by-below k h (ℕ-discrete k s);
+    ascending = λ k h. by-order k h (ℕ-discrete k s);
   }
     where
-      by-room : (k : ℕ) → k < 16 → Dec (k ≡ s) → length (getD (set (m .queues) s (longer j d)) k []) + places (slotOf m k .number) ≤ 32
-      by-room k h (yes e) = rw (e, queue-same (longer j d), length-append) (omega arith)
-      by-room k h (no ne) = rw (getD-set-other (m .queues) s k (longer j d) [] ne) (f .room k h)
+      by-room : (k : ℕ) → k < 16 → Dec (k ≡ s) → length (getD (set (m .queues) s q) k []) + places (slotOf m k .number) ≤ 32
+      by-room k h (yes e) = rw (e, queue-same q) hr
+      by-room k h (no ne) = rw (getD-set-other (m .queues) s k q [] ne) (f .room k h)
 
-      by-below : (k : ℕ) → k < 16 → Dec (k ≡ s) → every (λ (w : Waiting). ltb (w .number) n) (getD (set (m .queues) s (longer j d)) k []) ≡ true
-      by-below k h (yes e) =
-          rw (e, queue-same (longer j d))
-          (every-snoc (λ (w : Waiting). ltb (w .number) n) (queue m s) (record { number = j; delta = d })
-          ∙ rw (below-more (m .next) n hn (queue m s) (f .queue-below s hs), lt-ltb j n hj))
-      by-below k h (no ne) = rw (getD-set-other (m .queues) s k (longer j d) [] ne) (below-more (m .next) n hn (queue m k) (f .queue-below k h))
+      by-below : (k : ℕ) → k < 16 → Dec (k ≡ s) → every (λ (w : Waiting). ltb (w .number) n) (getD (set (m .queues) s q) k []) ≡ true
+      by-below k h (yes e) = rw (e, queue-same q) hb
+      by-below k h (no ne) = rw (getD-set-other (m .queues) s k q [] ne) (below-more (m .next) n hn (queue m k) (f .queue-below k h))
+
+      by-order : (k : ℕ) → k < 16 → Dec (k ≡ s) → ascends (getD (set (m .queues) s q) k []) ≡ true
+      by-order k h (yes e) = rw (e, queue-same q) ha
+      by-order k h (no ne) = rw (getD-set-other (m .queues) s k q [] ne) (f .ascending k h)
+
+  -- one entry more at the back, under the next number
+  join-sound : (d : ℤ) → Sound m → length (queue m s) + places (slotOf m s .number) < 32 → Sound (withNext (joined m s (m .next) d) (m .next + 1))
+  unfolding joined
+  join-sound d f hr =
+      queue-sound _ (m .next + 1) f (omega arith) (rw length-append (omega arith))
+      (every-snoc (λ (w : Waiting). ltb (w .number) (m .next + 1)) (queue m s) (record { number = m .next; delta = d })
+      ∙ rw (below-more (m .next) (m .next + 1) (omega arith) (queue m s) (f .queue-below s hs), lt-ltb (m .next) (m .next + 1) (omega arith)))
+      (ascends-snoc (queue m s) (record { number = m .next; delta = d }) (f .ascending s hs) (none-above m (queue m s) (f .queue-below s hs)))
+
+  -- one entry more behind its equals
+  insert-sound : (j : ℕ) (d : ℤ) → Sound m → j < m .next → length (queue m s) + places (slotOf m s .number) < 32 → Sound (inserted m s j d)
+  unfolding inserted
+  insert-sound j d f hj hr =
+      queue-sound _ (m .next) f (omega arith) (rw (length-behind (record { number = j; delta = d }) (queue m s)) (omega arith))
+      (every-behind (λ (w : Waiting). ltb (w .number) (m .next)) (record { number = j; delta = d }) (queue m s) (lt-ltb j (m .next) hj) (f .queue-below s hs))
+      (ascends-behind (record { number = j; delta = d }) (queue m s) (f .ascending s hs))
 
   -- the slot made idle
   idle-sound : Sound m → Sound (withSlot m s (madeIdle (slotOf m s)))
@@ -160,7 +187,7 @@ module _ (m : State) (sh : Shaped m) (f : Sound m) where
 
   recorded-sound : (shard : ℕ) (delta : ℤ) → shard < 16 → length (queue m shard) + places (slotOf m shard .number) < 32 → Sound (recorded m shard delta)
   unfolding recorded
-  recorded-sound shard delta hs room = join-sound m sh shard hs (m .next) delta (m .next + 1) f (omega arith) (omega arith) room
+  recorded-sound shard delta hs room = join-sound m sh shard hs delta f room
 
   module _ (shard number : ℕ) (hs : shard < 16) where
     abandoned-sound : Sound (abandoned m shard number)
@@ -172,10 +199,10 @@ module _ (m : State) (sh : Shaped m) (f : Sound m) where
         by false = f
 
     -- a slot that matches was open, so its place in the queue is free
-    queued-sound : (delta : ℤ) → matches (slotOf m shard) number ≡ true → Sound (joined (abandoned m shard number) shard number delta)
-    unfolding abandoned matches joined
+    queued-sound : (delta : ℤ) → matches (slotOf m shard) number ≡ true → Sound (inserted (abandoned m shard number) shard number delta)
+    unfolding abandoned matches
     queued-sound delta e =
-        rw e (join-sound (withSlot m shard (madeIdle (slotOf m shard))) shaped shard hs number delta (m .next) (idle-sound m sh shard hs f) (omega arith)
+        rw e (insert-sound (withSlot m shard (madeIdle (slotOf m shard))) shaped shard hs number delta (idle-sound m sh shard hs f)
         (omega (arith, f .slot-below shard hs, held)) room)
       where
         held : slotOf m shard .number ≡ number
@@ -196,7 +223,7 @@ module _ (m : State) (sh : Shaped m) (f : Sound m) where
     completed-sound delta = by (matches (slotOf m shard) number) refl (not (isZero delta))
       where
         by : (b : Bool) → matches (slotOf m shard) number ≡ b → (z : Bool)
-            → Sound (cond (b && z) (joined (abandoned m shard number) shard number delta) (abandoned m shard number))
+            → Sound (cond (b && z) (inserted (abandoned m shard number) shard number delta) (abandoned m shard number))
         by true e true = queued-sound delta e
         by true e false = abandoned-sound
         by false e z = abandoned-sound
@@ -210,6 +237,8 @@ module _ (m : State) (sh : Shaped m) (f : Sound m) where
     queue-below = λ k h.
         rw (List·getD-map (pastFront limit) (m .queues) k [])
         (every-drop (λ (w : Waiting). ltb (w .number) (m .next)) (countFront limit (queue m k)) (queue m k) (f .queue-below k h));
+    ascending = λ k h.
+        rw (List·getD-map (pastFront limit) (m .queues) k []) (ascends-drop (countFront limit (queue m k)) (queue m k) (f .ascending k h));
   }
 
   cleared-sound : sound (cleared m) ≡ true

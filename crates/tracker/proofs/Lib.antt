@@ -1,7 +1,9 @@
 pub mod Runs
 pub mod Ints
 pub mod Views
+pub mod Ascents
 pub mod Sounds
+pub mod Inserts
 pub mod Fronts
 pub mod Slides
 pub mod Leasts
@@ -13,3 +15,5 @@ pub mod Totals
 pub mod Sayings
 pub mod Only
 pub mod Kept
+pub mod InOrder
+pub mod Examples

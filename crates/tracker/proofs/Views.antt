@@ -40,7 +40,7 @@ waiting-is t s long = by (decLt s 16)
     by (no h) =
         List·getD-eq-default (t .lengths) 0 (omega arith) ∙ sym (ap length (List·getD-eq-default (view t .queues) [] (omega (arith, queues-long t))))
 
-waiting-eq : {n n' : ℕ} {d d' : ℤ} → n ≡ n' → d ≡ d' → _≡_ {A = Waiting} (record { number = n; delta = d }) (record { number = n'; delta = d' })
+pub waiting-eq : {n n' : ℕ} {d d' : ℤ} → n ≡ n' → d ≡ d' → _≡_ {A = Waiting} (record { number = n; delta = d }) (record { number = n'; delta = d' })
 waiting-eq p q = cc
 
 state-eq : {ss ss' : List Slot} {qs qs' : List (List Waiting)} {n n' : ℕ} → ss ≡ ss' → qs ≡ qs' → n ≡ n'

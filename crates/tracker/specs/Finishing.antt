@@ -1,4 +1,4 @@
--- Document 01, "Tracker": complete and abandon.
+-- Document 01, "Tracker", with document 02's request 6: complete and abandon.
 -- Assumes nothing.
 use Prim.Native.Nat.{ℕ}
 use mathlib.Core.Path.{_≡_}
@@ -13,7 +13,7 @@ use Rattle.tracker.specs.declared.Tracker.{Tracker}
 use Rattle.tracker.specs.declared.FinishAnswer.{FinishAnswer}
 use Rattle.tracker.specs.declared.FinishAnswer.the-variants.{Done, Stale, Refused}
 use Rattle.tracker.specs.declared.AfterFinish.{AfterFinish}
-use Rattle.tracker.specs.State.{State, view, slotOf, withSlot, joined}
+use Rattle.tracker.specs.State.{State, view, slotOf, withSlot, inserted}
 use Rattle.tracker.specs.Sound.{sound}
 use Rattle.tracker.specs.Outcome.{Met}
 
@@ -55,10 +55,11 @@ abandoned m shard number = cond (matches (slotOf m shard) number) (withSlot m sh
 abbrev pub isZero : ℤ → Bool
 isZero delta = eqb (natAbs delta) 0
 
--- "and a nonzero delta joins the back of the shard's queue under that number"; "Abandon is the same without the delta."
+-- a nonzero delta goes into the shard's queue under that number, by request 6 in the order of numbers: "completion inserts behind its equals".
+-- "Abandon is the same without the delta."
 unfoldable pub completed : State → ℕ → ℕ → ℤ → State
 completed m shard number delta =
-    cond (matches (slotOf m shard) number && not (isZero delta)) (joined (abandoned m shard number) shard number delta) (abandoned m shard number)
+    cond (matches (slotOf m shard) number && not (isZero delta)) (inserted (abandoned m shard number) shard number delta) (abandoned m shard number)
 
 abbrev pub saidFinish : FinishAnswer → Said Finished
 saidFinish Done = accepted done

@@ -1,11 +1,11 @@
 -- What the helpers of the tracker promise to its operations; no public call speaks of these.
 -- Assumes nothing.
-use Prim.Native.Nat.{ℕ, _+_, _*_, _≤_, _<_}
+use Prim.Native.Nat.{ℕ, _+_, _-_, _*_, _≤_, _<_}
 use mathlib.Core.Path.{_≡_}
 use mathlib.Core.Bool.{Bool}
 use mathlib.Core.List.{List}
 use lib.ListN.{length, getD}
-use lib.Dec.{eqb}
+use lib.Dec.{leb, eqb}
 use lib.IntN.{ℤ, natAbs}
 use Rattle.tracker.specs.declared.Tracker.{Tracker}
 use Rattle.tracker.specs.declared.Front.{Front}
@@ -47,3 +47,21 @@ pub record Slid (A : Type 0) (z : A) (xs ys : List A) (base gone i : ℕ) : Type
   pub moved : (j : ℕ) → j < i → getD ys (base + j) z ≡ getD xs (base + gone + j) z
   pub low : (p : ℕ) → p < base → getD ys p z ≡ getD xs p z
   pub high : (p : ℕ) → base + i ≤ p → getD ys p z ≡ getD xs p z
+
+-- each of the count numbers from base on is at most the one behind it
+abbrev pub neighboursAscend : List ℕ → ℕ → ℕ → Bool
+neighboursAscend numbers base count = allBelow (λ (j : ℕ). leb (getD numbers (base + j) 0) (getD numbers (base + j + 1) 0)) (count - 1)
+
+-- where a number goes among the count from base on: none before that place is larger, and the one that stands there is
+pub record Placed (numbers : List ℕ) (base count number place : ℕ) : Type 0 where
+  pub within : place ≤ count
+  pub before : (j : ℕ) → j < place → getD numbers (base + j) 0 ≤ number
+  pub larger : place < count → number < getD numbers (base + place) 0
+
+-- ys is xs with x put in at a place of the count from base on, and what stood there and behind one place further
+pub record PutIn (A : Type 0) (z : A) (xs ys : List A) (base count place : ℕ) (x : A) : Type 0 where
+  pub long : length ys ≡ length xs
+  pub low : (p : ℕ) → p < base + place → getD ys p z ≡ getD xs p z
+  pub here : getD ys (base + place) z ≡ x
+  pub moved : (j : ℕ) → place ≤ j → j < count → getD ys (base + j + 1) z ≡ getD xs (base + j) z
+  pub high : (p : ℕ) → base + count < p → getD ys p z ≡ getD xs p z

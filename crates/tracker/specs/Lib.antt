@@ -6,6 +6,7 @@ pub mod Recording
 pub mod Finishing
 pub mod Least
 pub mod Sums
+pub mod Order
 pub mod Checkpoints
 pub mod Draining
 pub mod Clearing

@@ -4,7 +4,7 @@ use Prim.Native.Nat.{ℕ, zero, suc, _*_}
 use mathlib.Core.Bool.{cond}
 use mathlib.Core.List.{List, [], _∷_, _++_}
 use lib.ListN.{getD, set, replicate}
-use lib.Dec.{eqb}
+use lib.Dec.{ltb, eqb}
 use lib.IntN.{ℤ, pos}
 use Rattle.tracker.specs.declared.Slot.{Slot}
 use Rattle.tracker.specs.declared.Tracker.{Tracker}
@@ -60,7 +60,18 @@ withSlot m shard slot = record { slots = set (m .slots) shard slot; queues = m .
 abbrev pub withNext : State → ℕ → State
 withNext m next = record { slots = m .slots; queues = m .queues; next = next }
 
--- "joins the back of the shard's queue under that number"
+abbrev pub withQueue : State → ℕ → List Waiting → State
+withQueue m shard q = record { slots = m .slots; queues = set (m .queues) shard q; next = m .next }
+
+-- one delta more at the back of the shard's queue: there a new number belongs, which is above all that wait
 unfoldable pub joined : State → ℕ → ℕ → ℤ → State
-joined m shard number delta =
-    record { slots = m .slots; queues = set (m .queues) shard (queue m shard ++ (record { number = number; delta = delta } ∷ [])); next = m .next }
+joined m shard number delta = withQueue m shard (queue m shard ++ (record { number = number; delta = delta } ∷ []))
+
+-- Document 02, request 6: "completion inserts behind its equals", so before the first number that is larger
+abbrev pub behindEquals : Waiting → List Waiting → List Waiting
+behindEquals w [] = w ∷ []
+behindEquals w (x ∷ xs) = cond (ltb (w .number) (x .number)) (w ∷ x ∷ xs) (x ∷ behindEquals w xs)
+
+-- one delta more in the shard's queue, behind its equals
+unfoldable pub inserted : State → ℕ → ℕ → ℤ → State
+inserted m shard number delta = withQueue m shard (behindEquals (record { number = number; delta = delta }) (queue m shard))

@@ -1,11 +1,12 @@
-// Document 01, "Tracker": reservations that are open, deltas that wait, and the checkpoint over
-// both. One value goes in and comes back; any value and any numbers may come in. What is right
-// stands in specs/, file by file as the operations are named here. Loops stand in helpers on lent
-// arrays, because a helper that takes the whole value would copy its five kilobytes at each call.
+// Document 01, "Tracker", with document 02's request 6: reservations that are open, deltas that
+// wait in the order of their numbers, and the checkpoint over both. One value goes in and comes
+// back; any value and any numbers may come in. What is right stands in specs/, file by file as the
+// operations are named here. Loops stand in helpers on lent arrays, because a helper that takes
+// the whole value would copy its five kilobytes at each call.
 use answers::Refusal;
 use answers::Verdict;
 ghost use mathlib.Core.Path.{_≡_};
-ghost use mathlib.Core.Bool.{Bool, not, _&&_, _||_};
+ghost use mathlib.Core.Bool.{Bool, true, not, _&&_, _||_};
 ghost use Prim.Native.Nat.{ℕ, _+_, _*_, _≤_, _<_};
 ghost use mathlib.Core.List.{List};
 ghost use lib.ListN.{getD, length};
@@ -13,7 +14,7 @@ ghost use lib.Dec.{ltb, leb, eqb};
 ghost use lib.IntN.{ℤ, pos};
 ghost use Rattle.answers.specs.Numbers.{numberOfVerdict};
 ghost use Rattle.answers.specs.Answers.{firstOf};
-ghost use Rattle.tracker.specs.State.{view, freshState, places, idle, joined};
+ghost use Rattle.tracker.specs.State.{view, freshState, places, idle, joined, inserted};
 ghost use Rattle.tracker.specs.Sound.{sound, allBelow};
 ghost use Rattle.tracker.specs.Least.{before, lesserOf, stepOf, leastOf};
 ghost use Rattle.tracker.specs.Reserving.{reserveTests, ReserveMet};
@@ -22,7 +23,7 @@ ghost use Rattle.tracker.specs.Finishing.{finishTests, CompleteMet, Aban
 ghost use Rattle.tracker.specs.Checkpoints.{saidCheckpoint, checkpointOf};
 ghost use Rattle.tracker.specs.Draining.{DrainMet};
 ghost use Rattle.tracker.specs.Clearing.{ClearMet};
-ghost use Rattle.tracker.specs.Inner.{run, Roomy, Widened, Fronted, Summed, Slid, allZero};
+ghost use Rattle.tracker.specs.Inner.{run, Roomy, Widened, Fronted, Summed, Slid, allZero, neighboursAscend, Placed, PutIn};
 
 // A reservation's number, and the place that it holds. Number 0 is idle.
 #[repr(C)]
@@ -32,8 +33,8 @@ pub struct Slot {
     pub offset: u64,
 }
 
-// Shard s waits at the places from 32 * s of the two flat arrays, as many as lengths[s] says.
-// What lies past a queue's length is no state.
+// Shard s waits at the places from 32 * s of the two flat arrays, as many as lengths[s] says, in
+// the order of their numbers. What lies past a queue's length is no state.
 #[repr(C)]
 pub struct Tracker {
     pub slots: [Slot; 16],
@@ -68,20 +69,32 @@ pub fn fresh() -> Tracker
 
 // ---- soundness
 
-// The count numbers from base on are all below the next number.
-fn queue_below(numbers: &[u64], base: usize, count: usize, next: u64) -> bool
+// No number of the count from base on is above the one behind it.
+fn queue_ascends(numbers: &[u64], base: usize, count: usize) -> bool
     requires { ⌜ (base ≤ 480) × ((count ≤ 32) × (length (now numbers) ≡ 512)) ⌝ }
-    ensures { λ r. ⌜ r ≡ allBelow (λ (j : ℕ). ltb (getD (now (numbers .entry)) (base + j) 0) next) count ⌝ }
+    ensures { λ r. ⌜ r ≡ neighboursAscend (now (numbers .entry)) base count ⌝ }
 {
     let mut i: usize = 0;
-    while i < count {
-        let x = numbers[base + i];
-        if next <= x {
+    while i + 1 < count {
+        let here = numbers[base + i];
+        let behind = numbers[base + i + 1];
+        if behind < here {
             return false;
         }
         i += 1;
     }
     true
+}
+
+// The count numbers from base on are all below the next number: they ascend, so the last one tells.
+fn queue_below(numbers: &[u64], base: usize, count: usize, next: u64) -> bool
+    requires { ⌜ (base ≤ 480) × ((count ≤ 32) × ((length (now numbers) ≡ 512) × (neighboursAscend (now numbers) base count ≡ true))) ⌝ }
+    ensures { λ r. ⌜ r ≡ allBelow (λ (j : ℕ). ltb (getD (now (numbers .entry)) (base + j) 0) next) count ⌝ }
+{
+    if count == 0 {
+        return true;
+    }
+    numbers[base + count - 1] < next
 }
 
 // A shard's queue length and slot are sound.
@@ -114,6 +127,9 @@ pub fn is_sound(tracker: Tracker) -> bool
         if !head_sound(count, held, next) {
             return false;
         }
+        if !queue_ascends(&tracker.numbers, s * 32, count) {
+            return false;
+        }
         if !queue_below(&tracker.numbers, s * 32, count, next) {
             return false;
         }
@@ -142,7 +158,7 @@ fn number_on(slots: [Slot; 16], shard: usize) -> u64
     if shard < 16 { slots[shard].number } else { 0 }
 }
 
-// One delta more at the back of shard s's queue.
+// One delta more at the back of shard s's queue, for a number above all that wait there.
 fn push(tracker: Tracker, s: usize, number: u64, delta: i8) -> Tracker
     requires { ⌜ Roomy tracker × ((s < 16) × (getD (tracker .lengths) s 0 < 32)) ⌝ }
     ensures { λ r. ⌜ view r ≡ joined (view tracker) s number delta ⌝ }
@@ -342,6 +358,66 @@ fn finish_verdict(soundness: bool, shard: usize) -> Verdict
     Verdict::Accepted
 }
 
+// Where a number goes among the count from base on: before the first larger one, so behind its
+// equals.
+fn place_of(numbers: &[u64], base: usize, count: usize, number: u64) -> usize
+    requires { ⌜ (base ≤ 480) × ((count ≤ 32) × (length (now numbers) ≡ 512)) ⌝ }
+    ensures { λ r. ⌜ Placed (now (numbers .entry)) base count number r ⌝ }
+{
+    let mut i: usize = 0;
+    while i < count {
+        let x = numbers[base + i];
+        if number < x {
+            return i;
+        }
+        i += 1;
+    }
+    i
+}
+
+// A number goes in at a place of the count from base on; those from there on stand one place
+// further.
+fn put_number(numbers: &mut [u64; 512], base: usize, count: usize, place: usize, number: u64)
+    requires { ⌜ (length (now numbers) ≡ 512) × ((base ≤ 480) × ((count < 32) × (place ≤ count))) ⌝ }
+    ensures { λ r. ⌜ PutIn ℕ 0 (now (numbers .entry)) (now (numbers .exit)) base count place number ⌝ }
+{
+    let mut i = count;
+    while place < i {
+        let x = numbers[base + i - 1];
+        numbers[base + i] = x;
+        i -= 1;
+    }
+    numbers[base + place] = number;
+}
+
+fn put_delta(deltas: &mut [i8; 512], base: usize, count: usize, place: usize, delta: i8)
+    requires { ⌜ (length (now deltas) ≡ 512) × ((base ≤ 480) × ((count < 32) × (place ≤ count))) ⌝ }
+    ensures { λ r. ⌜ PutIn ℤ (pos 0) (now (deltas .entry)) (now (deltas .exit)) base count place delta ⌝ }
+{
+    let mut i = count;
+    while place < i {
+        let x = deltas[base + i - 1];
+        deltas[base + i] = x;
+        i -= 1;
+    }
+    deltas[base + place] = delta;
+}
+
+// One delta more in shard s's queue, behind its equals.
+fn insert(tracker: Tracker, s: usize, number: u64, delta: i8) -> Tracker
+    requires { ⌜ Roomy tracker × ((s < 16) × (getD (tracker .lengths) s 0 < 32)) ⌝ }
+    ensures { λ r. ⌜ view r ≡ inserted (view tracker) s number delta ⌝ }
+{
+    let mut changed = tracker;
+    let count = changed.lengths[s];
+    let base = s * 32;
+    let place = place_of(&changed.numbers, base, count, number);
+    put_number(&mut changed.numbers, base, count, place, number);
+    put_delta(&mut changed.deltas, base, count, place, delta);
+    changed.lengths[s] = count + 1;
+    changed
+}
+
 pub fn complete(tracker: Tracker, shard: usize, number: u64, delta: i8) -> AfterFinish
     ensures { λ r. ⌜ CompleteMet tracker shard number delta r ⌝ }
 {
@@ -373,7 +449,7 @@ pub fn complete(tracker: Tracker, shard: usize, number: u64, delta: i8) -> After
             answer: FinishAnswer::Done,
         };
     }
-    let queued = push(idled, shard, number, delta);
+    let queued = insert(idled, shard, number, delta);
     AfterFinish {
         tracker: queued,
         answer: FinishAnswer::Done,

@@ -1,6 +1,6 @@
-// Document 01's tracker rules on worked traces: a line for each step, which says what was asked
-// and what was answered. What it writes is held to the file `stdout`, which was checked line by
-// line against the document.
+// Document 01's tracker rules, with document 02's request 6, on worked traces: a line for each
+// step, which says what was asked and what was answered. What it writes is held to the file
+// `stdout`, which was checked line by line against the documents.
 use answers::Refusal;
 use answers::Verdict;
 use replay::StartAnswer;
@@ -232,7 +232,7 @@ fn state(now: Tracker) {
 // ---- traces
 
 fn trial() {
-    say(b"-- the document's trial\n");
+    say(b"-- document 01's trial, with request 6's sum\n");
     let mut t = tracker::fresh();
     checkpoint(t, 7, 0);
     t = reserve(t, 0, 7, 0, 4096, false, 16);
@@ -243,24 +243,80 @@ fn trial() {
     state(t);
 }
 
-// The queue of shard 0 holds number 3 in front of number 1.
-fn stopping() {
-    say(b"-- the sum stops at the first number at or above the limit; so does the drain\n");
+// What waits on a shard, from the front of its queue on: each number with its delta.
+fn waiting(now: Tracker, shard: usize) {
+    shard_does(shard, b" has waiting");
+    if 15 < shard {
+        return;
+    }
+    let count = now.lengths[shard];
+    let mut i: usize = 0;
+    while i < 32 {
+        if i < count {
+            say(b" (");
+            number(now.numbers[shard * 32 + i]);
+            say(b", ");
+            change(now.deltas[shard * 32 + i]);
+            say(b")");
+        }
+        i += 1;
+    }
+    line();
+}
+
+// On each of two shards a delta is recorded while the reservation is open, and completed after it.
+fn in_order() {
+    say(b"-- the sum takes every number below the limit; so does the drain\n");
     let mut t = tracker::fresh();
     t = reserve(t, 0, 7, 0, 4096, false, 16);
     t = reserve(t, 1, 7, 16, 4096, false, 16);
     t = record(t, 0, 5);
     t = complete(t, 0, 1, 1);
+    waiting(t, 0);
     t = record(t, 1, -7);
     t = drain(t, 2);
     state(t);
     t = complete(t, 1, 2, 100);
+    waiting(t, 1);
     checkpoint(t, 7, 32);
     t = drain(t, 4);
     state(t);
     t = drain(t, 5);
     state(t);
     checkpoint(t, 7, 32);
+}
+
+// A tracker in which numbers 2, 4, 4 and 6 wait on shard 0, beside an open one.
+fn with_equals(open: u64) -> Tracker {
+    let mut t = tracker::fresh();
+    t.next = 9;
+    t.numbers[0] = 2;
+    t.deltas[0] = 1;
+    t.numbers[1] = 4;
+    t.deltas[1] = 2;
+    t.numbers[2] = 4;
+    t.deltas[2] = 3;
+    t.numbers[3] = 6;
+    t.deltas[3] = 4;
+    t.lengths[0] = 4;
+    t.slots[0].number = open;
+    t
+}
+
+fn behind_equals() {
+    say(b"-- a completed delta goes in behind its equals\n");
+    let mut t = with_equals(4);
+    waiting(t, 0);
+    t = complete(t, 0, 4, 5);
+    waiting(t, 0);
+    t = complete(with_equals(1), 0, 1, 5);
+    waiting(t, 0);
+    t = complete(with_equals(6), 0, 6, 5);
+    waiting(t, 0);
+    t = complete(with_equals(5), 0, 5, 5);
+    waiting(t, 0);
+    t = record(t, 0, 8);
+    waiting(t, 0);
 }
 
 fn drain_in_the_middle() {
@@ -497,6 +553,16 @@ fn numbers_too_large() {
     checkpoint(t, 7, 0);
 }
 
+fn numbers_that_fall() {
+    say(b"-- unsound: number 4 waits before number 3; past the queue's length it doesn't count\n");
+    let mut t = with_equals(0);
+    t.numbers[3] = 3;
+    waiting(t, 0);
+    every_call(t);
+    t.lengths[0] = 3;
+    checkpoint(t, 7, 0);
+}
+
 // ---- the lent forms
 
 fn slot(number: u64, ordinal: u64, offset: u64) -> Slot {
@@ -678,7 +744,8 @@ fn start_files() {
 
 fn main() {
     trial();
-    stopping();
+    in_order();
+    behind_equals();
     drain_in_the_middle();
     full_queue();
     overwritten();
@@ -691,6 +758,7 @@ fn main() {
     last_numbers();
     long_queues();
     numbers_too_large();
+    numbers_that_fall();
     lent_forms();
     data_limits();
     tombstone_limits();

@@ -11,7 +11,7 @@ use Rattle.append.specs.Bytes.{headOf, coveredOf, encoded}
 use Rattle.scan.specs.Walk.{trial, walkLines, walkFrom, walk}
 use Rattle.scan.specs.Listing.{listMost, list}
 use Rattle.tail.specs.Tail.{nonzeroTo, usedBound, durable}
-use Rattle.tracker.specs.State.{joined}
+use Rattle.tracker.specs.State.{joined, inserted}
 use Rattle.tracker.specs.Sound.{sound, shardSound}
 use Rattle.tracker.specs.Reserving.{reserveTests, reserved}
 use Rattle.tracker.specs.Recording.{recordTests, recorded}
@@ -22,7 +22,7 @@ use Rattle.trials.specs.Table.{all, trials}
 use Rattle.trials.specs.Sample.{sample, sampleListing}
 
 pub all-hold : T (all trials)
-unfolding trials field bytesOf aligned taken step steps byte crcFrom crc16 markFrom wordOf wordMark wordNamespace wordKind headLength lengthOf placed entryAt agrees intact verifies nonzeroTo usedBound joined sound shardSound reserveTests reserved recordTests recorded matches abandoned completed before lesserOf stepOf leastOf allEmpty reachedOf
+unfolding trials field bytesOf aligned taken step steps byte crcFrom crc16 markFrom wordOf wordMark wordNamespace wordKind headLength lengthOf placed entryAt agrees intact verifies nonzeroTo usedBound joined inserted sound shardSound reserveTests reserved recordTests recorded matches abandoned completed before lesserOf stepOf leastOf allEmpty reachedOf
 all-hold = tt
 
 pub sample-lists : list version1 sample (usedBound sample) 0 ≡ sampleListing

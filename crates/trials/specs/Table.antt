@@ -6,7 +6,7 @@ use mathlib.Core.List.{List, [], _∷_, _++_}
 use mathlib.Core.Bool.{Bool, true, false, not, _&&_}
 use lib.Dec.{eqb}
 use lib.ListN.{replicate}
-use lib.IntN.{pos}
+use lib.IntN.{pos, negsuc, _+ℤ_}
 use Rattle.answers.specs.Answers.{Said, accepted, refused}
 use Rattle.fields.specs.Numbers.{field, bytesOf, aligned}
 use Rattle.entry.specs.Words.{version1, wordOf, wordMark}
@@ -92,11 +92,12 @@ trials =
     ∷ eqb (version1 173966336) 0
     ∷ eqb (wordMark (field 4 (replicate 16 0) 0)) (fromThere 0)
     ∷ not (verifies fromThere (replicate 16 0) 0)
-    -- Shard 0 reserves number 1, shard 1 reserves 2, shard 0 records 3, then completes 1 with delta 1: limit 2, sum 0.
+    -- Shard 0 reserves number 1, shard 1 reserves 2, shard 0 records 3, then completes 1 with delta 1: limit 2, and by document 02's request 6
+    -- "The trial in document 01 with sum 0 now counts the delta of number 1": sum 1.
     ∷ eqb (numberGranted (reserveOf freshState 0 0 4096 false 16)) 1
     ∷ eqb (numberGranted (reserveOf oneOpen 1 16 4096 false 16)) 2
     ∷ eqb (numberTaken (recordOf twoOpen 0)) 3
     ∷ matches (slotOf recordedThird 0) 1
     ∷ eqb (reachedOf completedFirst 7 32 .limit) 2
-    ∷ isZero (reachedOf completedFirst 7 32 .sum)
+    ∷ isZero (reachedOf completedFirst 7 32 .sum +ℤ negsuc 0)
     ∷ []

@@ -1,4 +1,4 @@
--- `tracker::complete` meets its contract: by its verdict, by the slot's number, and by the law of one entry more.
+-- `tracker::complete` meets its contract: by its verdict, by the slot's number, and by the law of one entry more behind its equals.
 -- Assumes nothing.
 use mathlib.Core.Path.{sym, _∙_}
 use mir.Facts.{toZ-ofZ}
@@ -7,7 +7,7 @@ use native.Mathlib.Omega.{arith}
 use borrow.Author.Needs.{needs}
 use Rattle.tracker.proofs.Ints.{bits-zero, bits-other}
 use Rattle.tracker.proofs.Sounds.{sound-roomy}
-use Rattle.tracker.proofs.Finishes.{finish-refused, stale-zero, stale-other, done-zero, done-push, done-room, free}
+use Rattle.tracker.proofs.Finishes.{finish-refused, stale-zero, stale-other, done-zero, done-insert, done-room, free}
 use Rattle.tracker.proofs.complete.Statement.{statement}
 use Rattle.tracker.proofs.complete.Tie as tie
 
@@ -62,8 +62,8 @@ returns-4 c =
     let z = c .if3 .taken in
     done-zero (a .t1) (a .shard) (a .number) (a .delta) (k .before .is-sound .result) (k .before .is-sound .ensures) (k .finish-verdict .result) (k .finish-verdict .ensures) (c .before .before .before .before .enum-told .given .1) (c .before .before .before .if1 .left) (c .before .before .if2 .left) (bits-zero (a .delta) (k .before .before .fits .delta) z)
 
-push-requires : tie.Need-push-requires
-push-requires c κs =
+insert-requires : tie.Need-insert-requires
+insert-requires c κs =
     let k = c .before .before .before .before .before .before in
     let a = k .before .before .args in
     let f = free (a .t1) (a .shard) (a .number) (a .delta) (k .before .is-sound .result) (k .before .is-sound .ensures) (k .finish-verdict .result) (k .finish-verdict .ensures) (c .before .before .before .before .enum-told .given .1) in
@@ -74,7 +74,7 @@ returns-5 c =
     let k = c .before .before .before .before .before .before .before in
     let a = k .before .before .args in
     let z = c .before .if3 .left in
-    done-push (a .t1) (a .shard) (a .number) (a .delta) (k .before .is-sound .result) (k .before .is-sound .ensures) (k .finish-verdict .result) (k .finish-verdict .ensures) (c .before .before .before .before .before .enum-told .given .1) (c .before .before .before .before .if1 .left) (c .before .before .before .if2 .left) (c .push .result) (bits-other (a .delta) z) (rw (toZ-ofZ {w = w8} (k .before .before .fits .delta)) at (c .push .ensures))
+    done-insert (a .t1) (a .shard) (a .number) (a .delta) (k .before .is-sound .result) (k .before .is-sound .ensures) (k .finish-verdict .result) (k .finish-verdict .ensures) (c .before .before .before .before .before .enum-told .given .1) (c .before .before .before .before .if1 .left) (c .before .before .before .if2 .left) (c .insert .result) (bits-other (a .delta) z) (rw (toZ-ofZ {w = w8} (k .before .before .fits .delta)) at (c .insert .ensures))
 
 pub complete-spec : {M : Type 1} → statement M
-complete-spec = tie.close (tie.spec (λ c κs. search needs) (λ c κs. search needs) (λ c. search needs) returns (λ c. search needs) mul-held element-copy-out-held returns-2 returns-3 mul-idled way-write-given-idled returns-4 push-requires returns-5)
+complete-spec = tie.close (tie.spec (λ c κs. search needs) (λ c κs. search needs) (λ c. search needs) returns (λ c. search needs) mul-held element-copy-out-held returns-2 returns-3 mul-idled way-write-given-idled returns-4 insert-requires returns-5)
