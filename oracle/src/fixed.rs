@@ -173,6 +173,18 @@ fn short_traces() -> Vec<(State, Vec<Step>)> {
     traces
 }
 
+/// Each call of the tracker but clear, on shard 0 where it has one.
+fn on_shard_0() -> [Step; 6] {
+    [
+        Step::Reserve { shard: 0, ordinal: 1, used: 0, capacity: 64, sealed: false, length: 16 },
+        Step::Record { shard: 0, delta: 1 },
+        Step::Complete { shard: 0, number: 1, delta: 1 },
+        Step::Abandon { shard: 0, number: 1 },
+        Step::Checkpoint { ordinal: 1, used: 0 },
+        Step::Drain { limit: 20 },
+    ]
+}
+
 /// The queue of one shard filled from empty, with its slot idle and open, and every call at each length.
 fn full_queues() -> Calls {
     Box::new((0..=32usize).flat_map(|count| {
@@ -180,15 +192,7 @@ fn full_queues() -> Calls {
             let mut state = State { next: 50, ..fresh_state() };
             state.queues[0] = (0..count).map(|i| (i as u64 + 2, 1)).collect();
             state.slots[0] = Slot { number, ordinal: 1, offset: 16 };
-            let steps = vec![
-                Step::Reserve { shard: 0, ordinal: 1, used: 0, capacity: 64, sealed: false, length: 16 },
-                Step::Record { shard: 0, delta: 1 },
-                Step::Complete { shard: 0, number: 1, delta: 1 },
-                Step::Abandon { shard: 0, number: 1 },
-                Step::Checkpoint { ordinal: 1, used: 0 },
-                Step::Drain { limit: 20 },
-            ];
-            steps.into_iter().map(move |step| Call::Track { state: Box::new(state.clone()), step })
+            on_shard_0().into_iter().map(move |step| Call::Track { state: Box::new(state.clone()), step })
         })
     }))
 }
@@ -213,16 +217,8 @@ fn descents() -> Calls {
             let mut state = State { next: 70, ..fresh_state() };
             state.queues[15] = (1..=count).map(|i| (i, 1)).collect();
             state.queues[15].swap(pair as usize - 1, pair as usize);
-            let steps = vec![
-                Step::Reserve { shard: 0, ordinal: 1, used: 0, capacity: 64, sealed: false, length: 16 },
-                Step::Record { shard: 0, delta: 1 },
-                Step::Complete { shard: 0, number: 1, delta: 1 },
-                Step::Abandon { shard: 0, number: 1 },
-                Step::Checkpoint { ordinal: 1, used: 0 },
-                Step::Drain { limit: 20 },
-                Step::Clear,
-            ];
-            steps.into_iter().map(move |step| Call::Track { state: Box::new(state.clone()), step })
+            let steps = on_shard_0().into_iter().chain([Step::Clear]);
+            steps.map(move |step| Call::Track { state: Box::new(state.clone()), step })
         })
     }))
 }
