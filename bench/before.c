@@ -1,6 +1,7 @@
 // Measures two builds of the library in turns: the checksum alone, durable end, reads at a place, appends, the start file,
-// the tracker. bench/before builds and runs this, with the paths of both builds and the number of rounds. Prints a line for
-// each case, and ends with status 1 if the two ever give different sums, ends, entries, bytes, places or progress.
+// the tracker. bench/before builds and runs this, with the path of the earlier build, whether its calls are `with` version
+// and ordinal or `without`, the path of today's build and the number of rounds. Prints a line for each case, and ends with
+// status 1 if the two ever give different sums, ends, entries, bytes, places or progress.
 #define _POSIX_C_SOURCE 199309L
 #include <dlfcn.h>
 #include <stdio.h>
@@ -12,13 +13,28 @@
 
 enum { REGION = 268435456, LONGEST_RUN = 67108864, MOST_SUMS = 5000000, MOST_APPENDS = 200000, ROOM_FOR_APPENDS = 67108864, STARTS = 20000, TRACKS = 20000 };
 
-// What is called of a build. Calls go through these pointers, so the compiler can neither merge nor skip them.
+// What is called of a build. Calls go through these pointers, so the compiler can neither merge nor skip them. Those that
+// need a mark have two forms: with the file's version and ordinal, and without, as before there were version 2 files.
 struct side {
+    bool versions;
     uint16_t (*hash)(const uint8_t *, size_t);
-    uint32_t (*append_data)(uint8_t *, size_t, size_t, uint64_t, uint64_t, const uint8_t *, size_t, const uint8_t *, size_t, uint64_t *);
-    uint32_t (*append_tombstone)(uint8_t *, size_t, size_t, uint64_t, const uint8_t *, size_t, uint64_t *);
-    uint32_t (*durable_end)(const uint8_t *, size_t, size_t, uint64_t *, uint64_t *);
-    uint32_t (*read_at)(const uint8_t *, size_t, size_t, size_t, struct locker_entry *);
+    union {
+        uint32_t (*with)(uint8_t *, size_t, uint64_t, uint64_t, size_t, uint64_t, uint64_t, const uint8_t *, size_t, const uint8_t *, size_t,
+                         uint64_t *);
+        uint32_t (*without)(uint8_t *, size_t, size_t, uint64_t, uint64_t, const uint8_t *, size_t, const uint8_t *, size_t, uint64_t *);
+    } append_data;
+    union {
+        uint32_t (*with)(uint8_t *, size_t, uint64_t, uint64_t, size_t, uint64_t, const uint8_t *, size_t, uint64_t *);
+        uint32_t (*without)(uint8_t *, size_t, size_t, uint64_t, const uint8_t *, size_t, uint64_t *);
+    } append_tombstone;
+    union {
+        uint32_t (*with)(const uint8_t *, size_t, uint64_t, uint64_t, size_t, uint64_t *, uint64_t *);
+        uint32_t (*without)(const uint8_t *, size_t, size_t, uint64_t *, uint64_t *);
+    } durable_end;
+    union {
+        uint32_t (*with)(const uint8_t *, size_t, uint64_t, uint64_t, size_t, size_t, struct locker_entry *);
+        uint32_t (*without)(const uint8_t *, size_t, size_t, size_t, struct locker_entry *);
+    } read_at;
     uint32_t (*start_file)(const uint64_t *, size_t, uint64_t, uint64_t *, uint64_t *);
     uint32_t (*complete)(struct locker_tracker *, size_t, uint64_t, int8_t, uint64_t *);
     uint32_t (*checkpoint)(const struct locker_tracker *, uint64_t, uint64_t, struct locker_progress *);
@@ -43,12 +59,12 @@ static void *found(void *library, const char *name)
     return function;
 }
 
-static struct side loaded(const char *path)
+static struct side loaded(const char *path, bool versions)
 {
     void *library = dlopen(path, RTLD_NOW | RTLD_LOCAL);
     if (!library)
         fail(dlerror());
-    struct side side;
+    struct side side = {.versions = versions};
     *(void **)&side.hash = found(library, "locker_hash");
     *(void **)&side.append_data = found(library, "locker_append_data");
     *(void **)&side.append_tombstone = found(library, "locker_append_tombstone");
@@ -139,8 +155,41 @@ static void measure_sums(const uint8_t *bytes, size_t length)
 struct log {
     uint8_t *region;
     const uint8_t *bytes;
+    uint64_t version, ordinal;
     size_t capacity, klen, vlen, size, count;
 };
+
+// Each build is called in its own form.
+
+static uint32_t append_data(const struct side *side, const struct log *log, uint64_t *used, const uint8_t *key, const uint8_t *value)
+{
+    if (side->versions)
+        return side->append_data.with(log->region, log->capacity, log->version, log->ordinal, *used, LOCKER_INSERT, 1, key, log->klen, value,
+                                      log->vlen, used);
+    return side->append_data.without(log->region, log->capacity, *used, LOCKER_INSERT, 1, key, log->klen, value, log->vlen, used);
+}
+
+static uint32_t append_tombstone(const struct side *side, const struct log *log, uint64_t *used, const uint8_t *key)
+{
+    if (side->versions)
+        return side->append_tombstone.with(log->region, log->capacity, log->version, log->ordinal, *used, 1, key, log->klen, used);
+    return side->append_tombstone.without(log->region, log->capacity, *used, 1, key, log->klen, used);
+}
+
+static uint32_t durable_end(const struct side *side, const struct log *log, uint64_t *end, uint64_t *place)
+{
+    const size_t bound = log->size * log->count;
+    if (side->versions)
+        return side->durable_end.with(log->region, log->capacity, log->version, log->ordinal, bound, end, place);
+    return side->durable_end.without(log->region, log->capacity, bound, end, place);
+}
+
+static uint32_t read_at(const struct side *side, const struct log *log, size_t p, struct locker_entry *entry)
+{
+    if (side->versions)
+        return side->read_at.with(log->region, log->capacity, log->version, log->ordinal, p, SIZE_MAX, entry);
+    return side->read_at.without(log->region, log->capacity, p, SIZE_MAX, entry);
+}
 
 // An entry of 16 bytes is a tombstone, any other data; neighbours have different keys and values.
 static uint64_t appended(const struct side *side, const void *what)
@@ -149,10 +198,7 @@ static uint64_t appended(const struct side *side, const void *what)
     uint64_t used = 0;
     for (size_t i = 0; i < log->count; i++) {
         const uint8_t *key = log->bytes + i % 4096, *value = key + 4096;
-        uint32_t refused =
-            log->vlen ? side->append_data(log->region, log->capacity, used, LOCKER_INSERT, 1, key, log->klen, value, log->vlen, &used)
-                      : side->append_tombstone(log->region, log->capacity, used, 1, key, log->klen, &used);
-        if (refused)
+        if (log->vlen ? append_data(side, log, &used, key, value) : append_tombstone(side, log, &used, key))
             fail("an append was refused");
     }
     return used;
@@ -162,7 +208,7 @@ static uint64_t ended(const struct side *side, const void *what)
 {
     const struct log *log = what;
     uint64_t end = 0, place = 0;
-    if (side->durable_end(log->region, log->capacity, log->size * log->count, &end, &place))
+    if (durable_end(side, log, &end, &place))
         fail("a durable end was refused");
     if (end != log->size * log->count)
         fail("a durable end isn't the last entry's");
@@ -176,7 +222,7 @@ static uint64_t read_all(const struct side *side, const void *what)
     uint64_t told = 0;
     for (size_t i = 0; i < log->count; i++) {
         struct locker_entry entry;
-        if (side->read_at(log->region, log->capacity, i * log->size, SIZE_MAX, &entry))
+        if (read_at(side, log, i * log->size, &entry))
             fail("a read was refused");
         told = told * 31 + entry.kind + entry.kplace + entry.end;
     }
@@ -190,7 +236,12 @@ static void measure_entries(struct log log, size_t length)
     memset(log.region, 0, REGION);
     if (appended(&sides[TODAY], &log) != log.size * log.count)
         fail("the entries don't have the size that was meant");
+    struct log other = log;
+    // Under this ordinal version 2 has version 1's marks: the same bytes serve, and a build without versions ends alike.
+    other.version = LOCKER_VERSION_2;
+    other.ordinal = 1 << 24;
     report("durable end", length, (double)log.size * (double)log.count, (double)log.count, in_turns(ended, &log));
+    report(".. version 2", length, (double)log.size * (double)log.count, (double)log.count, in_turns(ended, &other));
     if (log.vlen)
         report("read", length, (double)log.size * (double)log.count, (double)log.count, in_turns(read_all, &log));
 }
@@ -307,17 +358,17 @@ int main(int argc, char **argv)
     static const struct {
         size_t length, klen, vlen;
     } entries[] = {{16, 8, 0}, {32, 8, 14}, {4096, 16, 4070}, {36874, 4096, 32768}};
-    if (argc != 4)
-        fail("takes two libraries and the number of rounds");
-    sides[EARLIER] = loaded(argv[1]);
-    sides[TODAY] = loaded(argv[2]);
-    rounds = atoi(argv[3]);
+    if (argc != 5)
+        fail("takes the earlier library, `with` or `without` for its calls, today's library and the number of rounds");
+    sides[EARLIER] = loaded(argv[1], strcmp(argv[2], "with") == 0);
+    sides[TODAY] = loaded(argv[3], true);
+    rounds = atoi(argv[4]);
 
     uint8_t *region = malloc(REGION), *bytes = malloc(LONGEST_RUN + 1);
     if (!region || !bytes)
         fail("no room for a region of 268,435,456 bytes and a run of 67,108,864");
     fill(bytes, LONGEST_RUN + 1);
-    struct log log = {.region = region, .bytes = bytes, .capacity = REGION};
+    struct log log = {.region = region, .bytes = bytes, .version = LOCKER_VERSION_1, .capacity = REGION};
 
     printf("%-12s %10s  %27s  %27s  %7s  %s\n", "", "bytes", "earlier, each", "today, each", "faster", "answers");
     for (size_t i = 0; i < sizeof lengths / sizeof *lengths; i++)

@@ -19,23 +19,33 @@
  *
  * A region is a data file without its first 4,096 bytes. All places count from the region's first byte.
  *
+ * Every call that needs a mark takes the file's version and ordinal, as locker_read_header tells them, and refuses a
+ * version that is neither 1 nor 2 with 2, before all else; the header's reader and writer refuse it after 1. In a
+ * version 1 file a line's mark depends on its place alone, and the ordinal that is passed has no effect.
+ *
+ * Version 2 is for cards that are used again. There the ordinal is added to the mark, so an entry left from an earlier
+ * use, under another ordinal, has a wrong mark at its place and doesn't verify. Ordinals that agree modulo 2^24 share
+ * their marks, and those that are 0 modulo 2^24 have version 1's. A line of 0xff is of type 3 where the mark is
+ * 0xFFFFFF: in a version 1 file at offset 173,966,320 alone, in a version 2 file at one that its ordinal gives.
+ * Under an ordinal that is 0xA5E83F modulo 2^24 that is offset 0: on a region erased to 0xff a boot answers 10 there.
+ *
  * The two examples below are compiled and run: bindings/c/examples.c has them line by line.
  *
  * A boot, whole:
  *
- *     uint64_t ordinal, bound, end, place, found, at = 0;
+ *     uint64_t version, ordinal, bound, end, place, found, at = 0;
  *     struct locker_entry entry;
- *     if (locker_read_header(file, file_length, &ordinal) != 0)
+ *     if (locker_read_header(file, file_length, &version, &ordinal) != 0)
  *         return refuse_card();
  *     const uint8_t *region = file + LOCKER_HEADER_LENGTH;
  *     size_t length = file_length - LOCKER_HEADER_LENGTH;
  *     if (locker_used_bound(region, length, &bound) != 0)
  *         return refuse_card();
- *     while (locker_walk(region, length, bound, at, &entry, &found, &place) == 0 && found) {
+ *     while (locker_walk(region, length, version, ordinal, bound, at, &entry, &found, &place) == 0 && found) {
  *         use(entry.ns, region + entry.kplace, entry.klen, region + entry.vplace, entry.vlen);
  *         at = entry.end;
  *     }
- *     if (locker_durable_end(region, length, bound, &end, &place) != 0)
+ *     if (locker_durable_end(region, length, version, ordinal, bound, &end, &place) != 0)
  *         return refuse_card();
  *     continue_writing_at(end);
  *
@@ -51,7 +61,8 @@
  *     if (locker_tracker_reserve(&tracker, 3, ordinal, used, length, false, LOCKER_LINE, &reserved) != 0)
  *         return turn_to_the_next_file();
  *     used = reserved.used;
- *     if (locker_append_data(region, length, reserved.place, LOCKER_INSERT, 1, key, 2, value, 1, &next) != 0)
+ *     if (locker_append_data(region, length, version, ordinal, reserved.place, LOCKER_INSERT, 1, key, 2, value, 1,
+ *                            &next) != 0)
  *         locker_tracker_abandon(&tracker, 3, reserved.number, &done);
  *     else
  *         locker_tracker_complete(&tracker, 3, reserved.number, 1, &done);
@@ -96,6 +107,9 @@ enum {
     LOCKER_EQUAL_ORDINALS = 22,     /* two equal ordinals */
     LOCKER_NOT_SOUND = 28           /* tracker value not sound */
 };
+
+/* A data file's version, which decides the marks of all its lines. */
+enum { LOCKER_VERSION_1 = 1, LOCKER_VERSION_2 = 2 };
 
 enum {
     LOCKER_HEADER_LENGTH = 4096,
@@ -188,33 +202,35 @@ uint16_t locker_update(uint16_t state, const uint8_t *bytes, size_t length);
 
 /* ---- header */
 
-/* The ordinal of the file that begins with these bytes. Refuses 1, 2. */
-uint32_t locker_read_header(const uint8_t *header, size_t length, uint64_t *ordinal);
+/* The version, 1 or 2, and the ordinal of the file that begins with these bytes. Refuses 1, 2. */
+uint32_t locker_read_header(const uint8_t *header, size_t length, uint64_t *version, uint64_t *ordinal);
 
-/* Fills the first 4,096 bytes and touches no more. Refuses 1. */
-uint32_t locker_write_header(uint8_t *lent, size_t length, uint64_t ordinal);
+/* Fills the first 4,096 bytes and touches no more. Refuses 1, 2 (neither version). */
+uint32_t locker_write_header(uint8_t *lent, size_t length, uint64_t version, uint64_t ordinal);
 
 /* ---- entries */
 
 /* The data entry at p, of which at most `hint` bytes are looked at. Its kind is the one that was written, insert or
- * update, as locker_walk tells it. Refuses 3, 5, then 6, 7, 6, 8, 9. */
-uint32_t locker_read_at(const uint8_t *region, size_t length, size_t p, size_t hint, struct locker_entry *entry);
+ * update, as locker_walk tells it. Refuses 2, 3, 5, then 6, 7, 6, 8, 9. */
+uint32_t locker_read_at(const uint8_t *region, size_t length, uint64_t version, uint64_t ordinal, size_t p, size_t hint,
+                        struct locker_entry *entry);
 
 /* Writes a data entry (kind 0 or 1) at the used count, fills up to the next line with 0xff and tells the new used
- * count; the region's length is its capacity. Refuses 3, 5, 9, 17, 11, 12, 13. */
-uint32_t locker_append_data(uint8_t *region, size_t length, size_t used, uint64_t kind, uint64_t ns, const uint8_t *key,
-                            size_t klen, const uint8_t *value, size_t vlen, uint64_t *next);
+ * count; the region's length is its capacity. Refuses 2, 3, 5, 9, 17, 11, 12, 13. */
+uint32_t locker_append_data(uint8_t *region, size_t length, uint64_t version, uint64_t ordinal, size_t used,
+                            uint64_t kind, uint64_t ns, const uint8_t *key, size_t klen, const uint8_t *value,
+                            size_t vlen, uint64_t *next);
 
-/* The same for a tombstone. Refuses 3, 5, 17, 11, 13. */
-uint32_t locker_append_tombstone(uint8_t *region, size_t length, size_t used, uint64_t ns, const uint8_t *key,
-                                 size_t klen, uint64_t *next);
+/* The same for a tombstone. Refuses 2, 3, 5, 17, 11, 13. */
+uint32_t locker_append_tombstone(uint8_t *region, size_t length, uint64_t version, uint64_t ordinal, size_t used,
+                                 uint64_t ns, const uint8_t *key, size_t klen, uint64_t *next);
 
 /* ---- walk and tail */
 
 /* The next verified entry from `offset` on, up to `bound`: *found is 1 and *entry tells it; or *found is 0 at the end,
- * and *entry stays. Refuses 3, 4, then 10 with its *place. */
-uint32_t locker_walk(const uint8_t *region, size_t length, size_t bound, size_t offset, struct locker_entry *entry,
-                     uint64_t *found, uint64_t *place);
+ * and *entry stays. Refuses 2, 3, 4, then 10 with its *place. */
+uint32_t locker_walk(const uint8_t *region, size_t length, uint64_t version, uint64_t ordinal, size_t bound,
+                     size_t offset, struct locker_entry *entry, uint64_t *found, uint64_t *place);
 
 /* Where `len` bytes from `at` on begin in the region and how many they are: `at` and `len`, or 0 and 0 where they run
  * past its end. With an entry's kplace and klen they are its key, with its vplace and vlen its value. */
@@ -223,8 +239,9 @@ void locker_part(const uint8_t *region, size_t length, size_t at, size_t len, ui
 /* One past the last nonzero byte, rounded up to a line, but at most the length. Refuses 3. */
 uint32_t locker_used_bound(const uint8_t *region, size_t length, uint64_t *bound);
 
-/* The last verified entry's end rounded up to a line, or 0. Refuses 3, 4, then 10 with its *place. */
-uint32_t locker_durable_end(const uint8_t *region, size_t length, size_t bound, uint64_t *end, uint64_t *place);
+/* The last verified entry's end rounded up to a line, or 0. Refuses 2, 3, 4, then 10 with its *place. */
+uint32_t locker_durable_end(const uint8_t *region, size_t length, uint64_t version, uint64_t ordinal, size_t bound,
+                            uint64_t *end, uint64_t *place);
 
 /* ---- replay */
 

@@ -1,4 +1,4 @@
-"""Bytes on a card, from document 01's rules alone: what the samples and the tests are made with.
+"""Bytes on a card, from the rules of documents 01 and 02 alone: what the samples and the tests are made with.
 
 Nothing here calls the project's own code, and the checksum is Python's: `binascii.crc_hqx` started with 0xffff is
 CRC-16/IBM-3740. So a file made here is an independent check of the programs that read it.
@@ -23,8 +23,9 @@ def aligned(n):
     return (n + LINE - 1) // LINE * LINE
 
 
-def mark(offset):
-    return (offset // LINE + 0x5A17C0) % 2**24
+def mark(offset, version=1, ordinal=0):
+    """In version 2 the ordinal is added (document 02, request 10)."""
+    return (offset // LINE + 0x5A17C0 + (ordinal if version == 2 else 0)) % 2**24
 
 
 def header(ordinal, version=1, signature=SIGNATURE):
@@ -32,9 +33,9 @@ def header(ordinal, version=1, signature=SIGNATURE):
     return signature + number(version, 4) + bytes(4) + number(ordinal, 8) + bytes(4072)
 
 
-def entry(offset, kind, namespace, key, value=b""):
+def entry(offset, kind, namespace, key, value=b"", version=1, ordinal=0):
     """One entry as it stands at `offset`, without its filling. A tombstone has no value and no value length."""
-    word = number(mark(offset) + (namespace << 24) + (kind << 30), 4)
+    word = number(mark(offset, version, ordinal) + (namespace << 24) + (kind << 30), 4)
     if kind == TOMBSTONE:
         covered = word + number(len(key), 2) + key
     else:
@@ -47,9 +48,14 @@ def filled(data):
     return data + b"\xff" * (aligned(len(data)) - len(data))
 
 
-def region(*entries):
+def region(*entries, version=1, ordinal=0):
     """Entries one behind the other from offset 0 on, each given as (kind, namespace, key, value)."""
     data = b""
     for kind, namespace, key, value in entries:
-        data += filled(entry(len(data), kind, namespace, key, value))
+        data += filled(entry(len(data), kind, namespace, key, value, version, ordinal))
     return data
+
+
+def data_file(*entries, ordinal, version=1):
+    """A whole file: its header, and its entries under the header's version and ordinal."""
+    return header(ordinal, version) + region(*entries, version=version, ordinal=ordinal)

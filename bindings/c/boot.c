@@ -14,16 +14,18 @@ static int refused(uint32_t number, const char *what) {
 }
 
 static int boot(const uint8_t *file, size_t file_length) {
-    uint64_t ordinal = 0, bound = 0, end = 0, place = 0, found = 0;
+    uint64_t version = 0, ordinal = 0, bound = 0, end = 0, place = 0, found = 0;
     struct locker_entry entry;
-    uint32_t number = locker_read_header(file, file_length, &ordinal);
+    uint32_t number = locker_read_header(file, file_length, &version, &ordinal);
     if (number != LOCKER_ACCEPTED) return refused(number, "header");
     const uint8_t *region = file + LOCKER_HEADER_LENGTH;
     size_t length = file_length - LOCKER_HEADER_LENGTH, at = 0;
     number = locker_used_bound(region, length, &bound);
     if (number != LOCKER_ACCEPTED) return refused(number, "used bound");
     printf("file %" PRIu64 ", %" PRIu64 " bytes in use\n", ordinal, bound);
-    while ((number = locker_walk(region, length, bound, at, &entry, &found, &place)) == LOCKER_ACCEPTED && found) {
+    for (;;) {
+        number = locker_walk(region, length, version, ordinal, bound, at, &entry, &found, &place);
+        if (number != LOCKER_ACCEPTED || !found) break;
         printf("%" PRIu64 " %s %" PRIu64 " %.*s %.*s\n", entry.offset, kinds[entry.kind], entry.ns, (int)entry.klen,
                (const char *)region + entry.kplace, (int)entry.vlen, (const char *)region + entry.vplace);
         at = entry.end;
@@ -32,7 +34,7 @@ static int boot(const uint8_t *file, size_t file_length) {
         printf("refused 10 at %" PRIu64 "\n", place);
         return 1;
     }
-    number = locker_durable_end(region, length, bound, &end, &place);
+    number = locker_durable_end(region, length, version, ordinal, bound, &end, &place);
     if (number != LOCKER_ACCEPTED) return refused(number, "durable end");
     printf("writing goes on at %" PRIu64 "\n", end);
     return 0;

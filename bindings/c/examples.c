@@ -18,19 +18,19 @@ static void use(uint64_t ns, const uint8_t *key, uint64_t klen, const uint8_t *v
 static void continue_writing_at(uint64_t end) { printf("writing goes on at %" PRIu64 "\n", end); }
 
 static int boot(const uint8_t *file, size_t file_length) {
-    uint64_t ordinal, bound, end, place, found, at = 0;
+    uint64_t version, ordinal, bound, end, place, found, at = 0;
     struct locker_entry entry;
-    if (locker_read_header(file, file_length, &ordinal) != 0)
+    if (locker_read_header(file, file_length, &version, &ordinal) != 0)
         return refuse_card();
     const uint8_t *region = file + LOCKER_HEADER_LENGTH;
     size_t length = file_length - LOCKER_HEADER_LENGTH;
     if (locker_used_bound(region, length, &bound) != 0)
         return refuse_card();
-    while (locker_walk(region, length, bound, at, &entry, &found, &place) == 0 && found) {
+    while (locker_walk(region, length, version, ordinal, bound, at, &entry, &found, &place) == 0 && found) {
         use(entry.ns, region + entry.kplace, entry.klen, region + entry.vplace, entry.vlen);
         at = entry.end;
     }
-    if (locker_durable_end(region, length, bound, &end, &place) != 0)
+    if (locker_durable_end(region, length, version, ordinal, bound, &end, &place) != 0)
         return refuse_card();
     continue_writing_at(end);
     return 0;
@@ -50,8 +50,8 @@ static void keep(uint64_t ordinal, uint64_t offset, int64_t sum) {
     printf("finished up to file %" PRIu64 ", offset %" PRIu64 ", %" PRId64 " more\n", ordinal, offset, sum);
 }
 
-static int reservation(uint8_t *region, size_t length, uint64_t ordinal, uint64_t used, const uint8_t *key,
-                       const uint8_t *value) {
+static int reservation(uint8_t *region, size_t length, uint64_t version, uint64_t ordinal, uint64_t used,
+                       const uint8_t *key, const uint8_t *value) {
     struct locker_tracker tracker;
     struct locker_reserved reserved;
     struct locker_progress progress;
@@ -61,7 +61,8 @@ static int reservation(uint8_t *region, size_t length, uint64_t ordinal, uint64_
     if (locker_tracker_reserve(&tracker, 3, ordinal, used, length, false, LOCKER_LINE, &reserved) != 0)
         return turn_to_the_next_file();
     used = reserved.used;
-    if (locker_append_data(region, length, reserved.place, LOCKER_INSERT, 1, key, 2, value, 1, &next) != 0)
+    if (locker_append_data(region, length, version, ordinal, reserved.place, LOCKER_INSERT, 1, key, 2, value, 1,
+                           &next) != 0)
         locker_tracker_abandon(&tracker, 3, reserved.number, &done);
     else
         locker_tracker_complete(&tracker, 3, reserved.number, 1, &done);
@@ -76,10 +77,11 @@ static int reservation(uint8_t *region, size_t length, uint64_t ordinal, uint64_
 int main(void) {
     static uint8_t file[LOCKER_HEADER_LENGTH + 32];
     uint8_t *region = file + LOCKER_HEADER_LENGTH;
+    const uint64_t version = LOCKER_VERSION_2, ordinal = 7;
     boot(file, sizeof file);
-    if (locker_write_header(file, sizeof file, 7) != LOCKER_ACCEPTED) return 1;
-    if (reservation(region, 32, 7, 0, (const uint8_t *)"A7", (const uint8_t *)"8") != 0) return 1;
-    if (reservation(region, 32, 7, 16, (const uint8_t *)"A7", (const uint8_t *)"9") != 0) return 1;
-    if (reservation(region, 32, 7, 32, (const uint8_t *)"A7", (const uint8_t *)"9") == 0) return 1;
+    if (locker_write_header(file, sizeof file, version, ordinal) != LOCKER_ACCEPTED) return 1;
+    if (reservation(region, 32, version, ordinal, 0, (const uint8_t *)"A7", (const uint8_t *)"8") != 0) return 1;
+    if (reservation(region, 32, version, ordinal, 16, (const uint8_t *)"A7", (const uint8_t *)"9") != 0) return 1;
+    if (reservation(region, 32, version, ordinal, 32, (const uint8_t *)"A7", (const uint8_t *)"9") == 0) return 1;
     return boot(file, sizeof file);
 }

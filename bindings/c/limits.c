@@ -1,6 +1,6 @@
 /* Calls every function of the library at its limits and with each of its refusals, with include/locker_log.h alone as
  * its guide, and looks at everything that a call may and may not change. What is expected was written down from
- * document 01: the checksum, the entries and the trackers here are made by plain code of this file.
+ * documents 01 and 02: the checksum, the entries and the trackers here are made by plain code of this file.
  *
  * Writes a line for each function with the number of checks that held, and a total. The first failures are told with
  * their lines; the exit status is 1 where a check failed. */
@@ -80,13 +80,29 @@ static void put_number(uint8_t *at, uint64_t number, int bytes) {
     for (int i = 0; i < bytes; i++) at[i] = (uint8_t)(number >> 8 * i);
 }
 
+/* What decides a file's marks. */
+struct rule {
+    uint64_t version, ordinal;
+};
+
+/* The rule that put_entry marks by, and that the calls below are told. */
+static struct rule rule = {LOCKER_VERSION_1, 0};
+
+static uint64_t mark(size_t p) {
+    uint64_t added = rule.version == LOCKER_VERSION_2 ? rule.ordinal & 0xffffff : 0;
+    return (p / 16 + 0x5A17C0 + added) & 0xffffff;
+}
+
+/* The one line of the largest region that has this mark. */
+static size_t line_of(uint64_t wanted) { return (size_t)((wanted - mark(0)) & 0xffffff) * 16; }
+
 /* An entry at p without its filling; what it answers is its length. Layout 2 is a tombstone's, any other a data
  * entry's. */
 static size_t put_entry(uint8_t *region, size_t p, unsigned layout, unsigned kind, unsigned ns, const uint8_t *key,
                         size_t klen, const uint8_t *value, size_t vlen) {
     uint8_t *at = region + p;
     size_t head = layout == 2 ? 6 : 8;
-    put_number(at, ((p / 16 + 0x5A17C0) & 0xffffff) | (uint64_t)ns << 24 | (uint64_t)kind << 30, 4);
+    put_number(at, mark(p) | (uint64_t)ns << 24 | (uint64_t)kind << 30, 4);
     put_number(at + 4, klen, 2);
     if (layout != 2) put_number(at + 6, vlen, 2);
     memcpy(at + head, value, vlen);
@@ -114,6 +130,65 @@ static bool same_entry(struct locker_entry a, struct locker_entry b) { return me
 static struct locker_entry entry_at(size_t p, unsigned layout, unsigned kind, unsigned ns, size_t klen, size_t vlen) {
     size_t head = layout == 2 ? 6 : 8;
     return (struct locker_entry){p, kind, ns, klen, vlen, p + head, p + head + vlen, p + head + vlen + klen + 2};
+}
+
+/* ---- under which rules the calls are tried */
+
+/* Both versions. Under version 1 the ordinal changes nothing. */
+static const struct rule rules[] = {
+    {LOCKER_VERSION_1, 0}, {LOCKER_VERSION_1, UINT64_MAX}, {LOCKER_VERSION_2, 7}, {LOCKER_VERSION_2, UINT64_MAX}};
+
+static void under_each_rule(void (*trial)(void)) {
+    for (size_t i = 0; i < sizeof rules / sizeof *rules; i++) {
+        rule = rules[i];
+        trial();
+    }
+}
+
+/* Neither version, though some are if they are cut to one, two or four bytes. */
+static const uint64_t neither[] = {0, 3, 0x101, 0x102, 0x10001, 0x10002, UINT64_C(0x100000000), UINT64_C(0x100000001),
+                                   UINT64_C(0x100000002), UINT64_C(0x8000000000000001), UINT64_MAX};
+enum { NEITHER = sizeof neither / sizeof *neither };
+
+/* A call gets 2, both where it would be accepted and where all its other refusals are due. What must stay, it looks at
+ * itself. */
+static void under_neither_version(uint32_t (*call)(bool due)) {
+    for (size_t i = 0; i < NEITHER; i++) {
+        rule = (struct rule){neither[i], 7};
+        CHECK(call(false) == LOCKER_WRONG_HEADER);
+        CHECK(call(true) == LOCKER_WRONG_HEADER);
+    }
+}
+
+/* A card is used again: the sample of a version 2 file of ordinal 7 still stands, and the calls are told another file.
+ * Those that have its marks see it. */
+static const struct {
+    struct rule rule;
+    bool seen;
+} later[] = {{{LOCKER_VERSION_2, 7}, true},
+             {{LOCKER_VERSION_2, 0x1000007}, true},
+             {{LOCKER_VERSION_2, UINT64_MAX - 0xFFFFF8}, true},
+             {{LOCKER_VERSION_2, 6}, false},
+             {{LOCKER_VERSION_2, 8}, false},
+             {{LOCKER_VERSION_2, 0x1000008}, false},
+             {{LOCKER_VERSION_2, 0}, false},
+             {{LOCKER_VERSION_2, UINT64_MAX}, false},
+             {{LOCKER_VERSION_1, 7}, false},
+             {{LOCKER_VERSION_1, 0x1000007}, false}};
+enum { LATER = sizeof later / sizeof *later };
+
+static bool recycle(uint8_t *region, size_t which) {
+    rule = later[0].rule;
+    put_sample(region);
+    rule = later[which].rule;
+    return later[which].seen;
+}
+
+/* A version 1 file's sample, and a version 2 file that has the same marks. */
+static void share_marks(uint8_t *region) {
+    rule = (struct rule){LOCKER_VERSION_1, 5};
+    put_sample(region);
+    rule = (struct rule){LOCKER_VERSION_2, 0x1000000};
 }
 
 /* ---- checksum */
@@ -168,65 +243,106 @@ static void try_update(void) {
 
 /* ---- header */
 
-static uint32_t read_header(const uint8_t *bytes, size_t length, uint64_t *ordinal) {
+static uint32_t read_header(const uint8_t *bytes, size_t length, struct rule *told) {
     uint8_t *kept = copied(bytes, length);
-    *ordinal = UNTOUCHED;
-    uint32_t answer = locker_read_header(bytes, length, ordinal);
+    *told = (struct rule){UNTOUCHED, UNTOUCHED};
+    uint32_t answer = locker_read_header(bytes, length, &told->version, &told->ordinal);
     CHECK(memcmp(kept, bytes, length) == 0);
-    if (answer != LOCKER_ACCEPTED) CHECK(*ordinal == UNTOUCHED);
+    if (answer != LOCKER_ACCEPTED) CHECK(told->version == UNTOUCHED && told->ordinal == UNTOUCHED);
     free(kept);
     return answer;
 }
 
-static void try_read_header(void) {
-    begin("locker_read_header");
-    uint8_t bytes[LOCKER_HEADER_LENGTH + 1] = "LOCKDAT1\x01";
-    uint64_t ordinal;
+static void read_header_of(uint64_t version) {
+    uint8_t bytes[LOCKER_HEADER_LENGTH + 1] = "LOCKDAT1";
+    struct rule told;
+    put_number(bytes + 8, version, 4);
     put_number(bytes + 16, UINT64_C(0x0102030405060708), 8);
-    CHECK(read_header(bytes, LOCKER_HEADER_LENGTH, &ordinal) == LOCKER_ACCEPTED);
-    CHECK(ordinal == UINT64_C(0x0102030405060708));
-    CHECK(read_header(bytes, LOCKER_HEADER_LENGTH + 1, &ordinal) == LOCKER_ACCEPTED);
+    CHECK(read_header(bytes, LOCKER_HEADER_LENGTH, &told) == LOCKER_ACCEPTED);
+    CHECK(told.version == version && told.ordinal == UINT64_C(0x0102030405060708));
+    CHECK(read_header(bytes, LOCKER_HEADER_LENGTH + 1, &told) == LOCKER_ACCEPTED);
     static const size_t short_of_it[] = {0, 1, 8, 12, 24, LOCKER_HEADER_LENGTH - 1};
     for (size_t i = 0; i < sizeof short_of_it / sizeof *short_of_it; i++)
-        CHECK(read_header(bytes, short_of_it[i], &ordinal) == LOCKER_HEADER_TOO_SHORT);
+        CHECK(read_header(bytes, short_of_it[i], &told) == LOCKER_HEADER_TOO_SHORT);
     /* each bit of signature and version counts; no bit of the zeros does */
     for (size_t byte = 0; byte < LOCKER_HEADER_LENGTH; byte = byte == 63 ? LOCKER_HEADER_LENGTH - 8 : byte + 1) {
         for (int bit = 0; bit < 8; bit++) {
             uint32_t wanted = byte < 12 ? LOCKER_WRONG_HEADER : LOCKER_ACCEPTED;
             bytes[byte] ^= (uint8_t)(1 << bit);
-            CHECK(read_header(bytes, LOCKER_HEADER_LENGTH, &ordinal) == wanted);
-            if (byte < 12) CHECK(read_header(bytes, LOCKER_HEADER_LENGTH - 1, &ordinal) == LOCKER_HEADER_TOO_SHORT);
+            CHECK(read_header(bytes, LOCKER_HEADER_LENGTH, &told) == wanted);
+            if (byte < 12) CHECK(read_header(bytes, LOCKER_HEADER_LENGTH - 1, &told) == LOCKER_HEADER_TOO_SHORT);
             bytes[byte] ^= (uint8_t)(1 << bit);
         }
     }
     static const uint64_t ordinals[] = {0, 1, UINT64_MAX - 1, UINT64_MAX};
     for (size_t i = 0; i < sizeof ordinals / sizeof *ordinals; i++) {
         put_number(bytes + 16, ordinals[i], 8);
-        CHECK(read_header(bytes, LOCKER_HEADER_LENGTH, &ordinal) == LOCKER_ACCEPTED);
-        CHECK(ordinal == ordinals[i]);
+        CHECK(read_header(bytes, LOCKER_HEADER_LENGTH, &told) == LOCKER_ACCEPTED);
+        CHECK(told.version == version && told.ordinal == ordinals[i]);
     }
 }
 
-static void try_write_header(void) {
-    begin("locker_write_header");
-    uint8_t lent[LOCKER_HEADER_LENGTH + 16], wanted[sizeof lent];
-    static const size_t short_of_it[] = {0, 1, 24, LOCKER_HEADER_LENGTH - 1};
-    for (size_t i = 0; i < sizeof short_of_it / sizeof *short_of_it; i++) {
-        memset(lent, 0xee, sizeof lent);
-        CHECK(locker_write_header(lent, short_of_it[i], 7) == LOCKER_HEADER_TOO_SHORT);
-        CHECK(all_are(lent, sizeof lent, 0xee));
+static void try_read_header(void) {
+    begin("locker_read_header");
+    read_header_of(LOCKER_VERSION_1);
+    read_header_of(LOCKER_VERSION_2);
+    /* of all that two bytes hold 1 and 2 alone are a version, and beside another byte that isn't 0 they are none */
+    uint8_t bytes[LOCKER_HEADER_LENGTH] = "LOCKDAT1";
+    struct rule told;
+    for (uint64_t version = 0; version <= 0xffff; version++) {
+        put_number(bytes + 8, version, 4);
+        CHECK(read_header(bytes, sizeof bytes, &told) ==
+              (version == 1 || version == 2 ? LOCKER_ACCEPTED : LOCKER_WRONG_HEADER));
     }
+    for (uint64_t byte = 1; byte <= 0xff; byte++) {
+        for (int place = 1; place < 4; place++) {
+            for (uint64_t version = 1; version <= 2; version++) {
+                put_number(bytes + 8, byte << 8 * place | version, 4);
+                CHECK(read_header(bytes, sizeof bytes, &told) == LOCKER_WRONG_HEADER);
+            }
+        }
+    }
+}
+
+static void write_header_of(uint64_t version) {
+    uint8_t lent[LOCKER_HEADER_LENGTH + 16], wanted[sizeof lent];
     static const uint64_t ordinals[] = {0, 1, UINT64_C(0x0102030405060708), UINT64_MAX};
     for (size_t i = 0; i < sizeof ordinals / sizeof *ordinals; i++) {
         for (size_t length = LOCKER_HEADER_LENGTH; length <= LOCKER_HEADER_LENGTH + 1; length++) {
             memset(lent, 0xee, sizeof lent);
             memset(wanted, 0xee, sizeof wanted);
             memset(wanted, 0, LOCKER_HEADER_LENGTH);
-            memcpy(wanted, "LOCKDAT1\x01", 9);
+            memcpy(wanted, "LOCKDAT1", 8);
+            put_number(wanted + 8, version, 4);
             put_number(wanted + 16, ordinals[i], 8);
-            CHECK(locker_write_header(lent, length, ordinals[i]) == LOCKER_ACCEPTED);
+            CHECK(locker_write_header(lent, length, version, ordinals[i]) == LOCKER_ACCEPTED);
             CHECK(memcmp(lent, wanted, sizeof lent) == 0);
         }
+    }
+}
+
+/* Writes a header under a version that is wrong, or too short a one, or both. */
+static uint32_t refused_header(uint64_t version, size_t length) {
+    uint8_t lent[LOCKER_HEADER_LENGTH + 16];
+    memset(lent, 0xee, sizeof lent);
+    uint32_t answer = locker_write_header(lent, length, version, 7);
+    CHECK(all_are(lent, sizeof lent, 0xee));
+    return answer;
+}
+
+static void try_write_header(void) {
+    begin("locker_write_header");
+    write_header_of(LOCKER_VERSION_1);
+    write_header_of(LOCKER_VERSION_2);
+    static const size_t short_of_it[] = {0, 1, 24, LOCKER_HEADER_LENGTH - 1};
+    for (size_t i = 0; i < sizeof short_of_it / sizeof *short_of_it; i++) {
+        CHECK(refused_header(LOCKER_VERSION_1, short_of_it[i]) == LOCKER_HEADER_TOO_SHORT);
+        CHECK(refused_header(LOCKER_VERSION_2, short_of_it[i]) == LOCKER_HEADER_TOO_SHORT);
+    }
+    for (size_t i = 0; i < NEITHER; i++) {
+        CHECK(refused_header(neither[i], LOCKER_HEADER_LENGTH) == LOCKER_WRONG_HEADER);
+        CHECK(refused_header(neither[i], LOCKER_HEADER_LENGTH + 1) == LOCKER_WRONG_HEADER);
+        CHECK(refused_header(neither[i], LOCKER_HEADER_LENGTH - 1) == LOCKER_HEADER_TOO_SHORT);
     }
 }
 
@@ -237,15 +353,14 @@ static uint32_t read_at(const uint8_t *region, size_t length, size_t p, size_t h
     size_t looked = length <= 200000 ? length : 0;
     uint8_t *kept = copied(region, looked);
     *entry = no_entry;
-    uint32_t answer = locker_read_at(region, length, p, hint, entry);
+    uint32_t answer = locker_read_at(region, length, rule.version, rule.ordinal, p, hint, entry);
     CHECK(memcmp(kept, region, looked) == 0);
     if (answer != LOCKER_ACCEPTED) CHECK(same_entry(*entry, no_entry));
     free(kept);
     return answer;
 }
 
-static void try_read_at(void) {
-    begin("locker_read_at");
+static void read_at_limits(void) {
     struct locker_entry entry;
     uint8_t region[64] = {0};
     put_sample(region);
@@ -315,9 +430,32 @@ static void try_read_at(void) {
     CHECK(read_at(big, largest + 1, last, SIZE_MAX, &entry) == LOCKER_REGION_TOO_LARGE);
     CHECK(read_at(big, largest + 1, 1, 0, &entry) == LOCKER_REGION_TOO_LARGE);
     memset(big + last, 0, 16);
-    /* the mark of 173,966,336 is 0: zeros match it, and their checksum doesn't */
-    CHECK(read_at(big, largest, 173966336, SIZE_MAX, &entry) == LOCKER_WRONG_CHECKSUM);
-    CHECK(read_at(big, largest, 173966336 - 16, SIZE_MAX, &entry) == LOCKER_WRONG_MARK);
+    /* the mark of one line is 0, in version 1 of 173,966,336: zeros match it, and their checksum doesn't */
+    if (rule.version == LOCKER_VERSION_1) CHECK(line_of(0) == 173966336);
+    CHECK(read_at(big, largest, line_of(0), SIZE_MAX, &entry) == LOCKER_WRONG_CHECKSUM);
+    CHECK(read_at(big, largest, line_of(0) - 16, SIZE_MAX, &entry) == LOCKER_WRONG_MARK);
+}
+
+static uint32_t read_of_a_version(bool due) {
+    struct locker_entry entry;
+    uint8_t region[64] = {0};
+    put_sample(region);
+    return due ? read_at(big, largest + 1, 1, 0, &entry) : read_at(region, 64, 0, SIZE_MAX, &entry);
+}
+
+static void try_read_at(void) {
+    begin("locker_read_at");
+    under_each_rule(read_at_limits);
+    under_neither_version(read_of_a_version);
+    struct locker_entry entry;
+    uint8_t region[64] = {0};
+    for (size_t i = 0; i < LATER; i++) {
+        uint32_t wanted = recycle(region, i) ? LOCKER_ACCEPTED : LOCKER_WRONG_MARK;
+        CHECK(read_at(region, 64, 0, SIZE_MAX, &entry) == wanted);
+        CHECK(read_at(region, 64, 16, SIZE_MAX, &entry) == wanted);
+    }
+    share_marks(region);
+    CHECK(read_at(region, 64, 16, SIZE_MAX, &entry) == LOCKER_ACCEPTED);
 }
 
 /* ---- appends */
@@ -330,6 +468,13 @@ struct append {
     size_t klen, vlen;
 };
 
+static uint32_t append_to(uint8_t *region, struct append a, bool tombstone, uint64_t *next) {
+    if (tombstone)
+        return locker_append_tombstone(region, a.length, rule.version, rule.ordinal, a.used, a.ns, key, a.klen, next);
+    return locker_append_data(region, a.length, rule.version, rule.ordinal, a.used, a.kind, a.ns, key, a.klen, value,
+                              a.vlen, next);
+}
+
 /* Appends to a region of 0xaa with some bytes behind it. Accepted, the region has to be as put_entry and the filling
  * make it, and the new used count has to be told; refused, nothing may change. */
 static uint32_t append(struct append a, bool tombstone) {
@@ -339,11 +484,7 @@ static uint32_t append(struct append a, bool tombstone) {
     memset(lent, 0xaa, room);
     memset(wanted, 0xaa, room);
     uint64_t next[2] = {UNTOUCHED, UNTOUCHED};
-    uint32_t answer;
-    if (tombstone)
-        answer = locker_append_tombstone(lent, a.length, a.used, a.ns, key, a.klen, next);
-    else
-        answer = locker_append_data(lent, a.length, a.used, a.kind, a.ns, key, a.klen, value, a.vlen, next);
+    uint32_t answer = append_to(lent, a, tombstone, next);
     unsigned kind = tombstone ? 2 : (unsigned)a.kind;
     size_t length = (tombstone ? 8 : 10) + a.klen + a.vlen;
     bool fits = a.used <= a.length && up(length) <= a.length - a.used;
@@ -420,39 +561,77 @@ static void try_append(bool tombstone) {
     CHECK(append(a, tombstone) == LOCKER_NO_SPACE);
 }
 
-/* The largest region and one byte more, which is refused before anything else is looked at. */
+/* The largest region and one byte more, which is refused before all but a wrong version. */
+static uint32_t append_to_too_large(bool tombstone) {
+    struct append a = {.length = largest + 1, .used = 1, .kind = 2, .ns = 64, .klen = LOCKER_LARGEST_KEY + 1};
+    a.vlen = LOCKER_LARGEST_VALUE + 1;
+    uint64_t next = UNTOUCHED;
+    uint32_t answer = append_to(big, a, tombstone, &next);
+    CHECK(next == UNTOUCHED && all_are(big, largest + 1, 0));
+    return answer;
+}
+
 static void try_append_big(bool tombstone) {
     uint64_t next = UNTOUCHED;
     size_t last = largest - 16;
-    if (tombstone) {
-        CHECK(locker_append_tombstone(big, largest + 1, 1, 64, key, LOCKER_LARGEST_KEY + 1, &next) ==
-              LOCKER_REGION_TOO_LARGE);
-        CHECK(next == UNTOUCHED && all_are(big, largest + 1, 0));
-        CHECK(locker_append_tombstone(big, largest, largest, 5, key, 0, &next) == LOCKER_NO_SPACE);
-        CHECK(locker_append_tombstone(big, largest - 1, last, 5, key, 0, &next) == LOCKER_NO_SPACE);
-        CHECK(next == UNTOUCHED && all_are(big, largest + 1, 0));
-        CHECK(locker_append_tombstone(big, largest, last, 5, key, 8, &next) == LOCKER_ACCEPTED);
-    } else {
-        CHECK(locker_append_data(big, largest + 1, 1, 2, 64, key, LOCKER_LARGEST_KEY + 1, value,
-                                 LOCKER_LARGEST_VALUE + 1, &next) == LOCKER_REGION_TOO_LARGE);
-        CHECK(next == UNTOUCHED && all_are(big, largest + 1, 0));
-        CHECK(locker_append_data(big, largest, largest, 0, 5, key, 0, value, 0, &next) == LOCKER_NO_SPACE);
-        CHECK(locker_append_data(big, largest - 1, last, 0, 5, key, 0, value, 0, &next) == LOCKER_NO_SPACE);
-        CHECK(next == UNTOUCHED && all_are(big, largest + 1, 0));
-        CHECK(locker_append_data(big, largest, last, 0, 5, key, 4, value, 2, &next) == LOCKER_ACCEPTED);
-    }
+    CHECK(append_to_too_large(tombstone) == LOCKER_REGION_TOO_LARGE);
+    struct append a = {.length = largest, .used = largest, .ns = 5};
+    CHECK(append_to(big, a, tombstone, &next) == LOCKER_NO_SPACE);
+    a.used = last;
+    a.length = largest - 1;
+    CHECK(append_to(big, a, tombstone, &next) == LOCKER_NO_SPACE);
+    CHECK(next == UNTOUCHED && all_are(big, largest + 1, 0));
+    a.length = largest;
+    a.klen = tombstone ? 8 : 4;
+    a.vlen = tombstone ? 0 : 2;
+    CHECK(append_to(big, a, tombstone, &next) == LOCKER_ACCEPTED);
     CHECK(next == largest);
     uint8_t *written = copied(big + last, 16);
     memset(big + last, 0xff, 16);
-    put_entry(big, last, tombstone ? 2 : 0, tombstone ? 2 : 0, 5, key, tombstone ? 8 : 4, value, tombstone ? 0 : 2);
+    put_entry(big, last, tombstone ? 2 : 0, tombstone ? 2 : 0, 5, key, a.klen, value, a.vlen);
     CHECK(memcmp(written, big + last, 16) == 0);
     free(written);
     memset(big + last, 0, 16);
     CHECK(all_are(big, largest + 1, 0));
 }
 
-static void try_append_data(void) {
-    begin("locker_append_data");
+/* Version 2's marks at 0 and at 32, under ordinals at their limits. */
+static void try_marks(bool tombstone) {
+    static const struct {
+        uint64_t ordinal, first, third;
+    } marks[] = {{0, 0x5A17C0, 0x5A17C2},          {1, 0x5A17C1, 0x5A17C3},         {7, 0x5A17C7, 0x5A17C9},
+                 {0xFFFFFF, 0x5A17BF, 0x5A17C1},   {0x1000000, 0x5A17C0, 0x5A17C2}, {0x1000007, 0x5A17C7, 0x5A17C9},
+                 {0xA5E83E, 0xFFFFFE, 0},          {0xA5E83F, 0xFFFFFF, 1},         {0xA5E840, 0, 2},
+                 {UINT64_MAX, 0x5A17BF, 0x5A17C1}, {UINT64_C(1) << 63, 0x5A17C0, 0x5A17C2}};
+    for (size_t i = 0; i < sizeof marks / sizeof *marks; i++) {
+        rule = (struct rule){LOCKER_VERSION_2, marks[i].ordinal};
+        uint8_t region[48] = {0}, first[3], third[3];
+        uint64_t next = UNTOUCHED;
+        put_number(first, marks[i].first, 3);
+        put_number(third, marks[i].third, 3);
+        struct append a = {.length = 48};
+        CHECK(append_to(region, a, tombstone, &next) == LOCKER_ACCEPTED);
+        a.used = 32;
+        CHECK(append_to(region, a, tombstone, &next) == LOCKER_ACCEPTED);
+        CHECK(memcmp(region, first, 3) == 0 && memcmp(region + 32, third, 3) == 0);
+        CHECK(append(a, tombstone) == LOCKER_ACCEPTED);
+    }
+}
+
+/* The same append to a version 1 file and to version 2 files, of which one has the same marks. */
+static void try_shared_marks(bool tombstone) {
+    static const struct rule each[] = {{LOCKER_VERSION_1, 7}, {LOCKER_VERSION_2, 0x1000000}, {LOCKER_VERSION_2, 7}};
+    uint8_t regions[3][16] = {{0}};
+    for (size_t i = 0; i < 3; i++) {
+        uint64_t next;
+        rule = each[i];
+        CHECK(append_to(regions[i], (struct append){.length = 16}, tombstone, &next) == LOCKER_ACCEPTED);
+    }
+    CHECK(memcmp(regions[0], regions[1], 16) == 0);
+    CHECK(memcmp(regions[0], regions[2], 16) != 0);
+}
+
+static void append_data_limits(void) {
     try_append(false);
     static const uint64_t kinds[] = {0, 1, 2, 3, 4, 255, 256, UINT64_C(1) << 32, UINT64_MAX};
     for (size_t i = 0; i < sizeof kinds / sizeof *kinds; i++)
@@ -470,14 +649,37 @@ static void try_append_data(void) {
     try_append_big(false);
 }
 
-static void try_append_tombstone(void) {
-    begin("locker_append_tombstone");
+static uint32_t data_append_of_a_version(bool due) {
+    return due ? append_to_too_large(false) : APPEND_DATA(.length = 64, .used = 16, .klen = 2, .vlen = 1);
+}
+
+static void try_append_data(void) {
+    begin("locker_append_data");
+    under_each_rule(append_data_limits);
+    under_neither_version(data_append_of_a_version);
+    try_marks(false);
+    try_shared_marks(false);
+}
+
+static void append_tombstone_limits(void) {
     try_append(true);
     CHECK(APPEND_TOMBSTONE(.length = 4112, .ns = 63, .klen = 4096) == LOCKER_ACCEPTED);
     CHECK(APPEND_TOMBSTONE(.length = 4111, .ns = 63, .klen = 4096) == LOCKER_NO_SPACE);
     CHECK(APPEND_TOMBSTONE(.length = 48, .used = 32, .klen = 8) == LOCKER_ACCEPTED);
     CHECK(APPEND_TOMBSTONE(.length = 48, .used = 32, .klen = 9) == LOCKER_NO_SPACE);
     try_append_big(true);
+}
+
+static uint32_t tombstone_append_of_a_version(bool due) {
+    return due ? append_to_too_large(true) : APPEND_TOMBSTONE(.length = 64, .used = 16, .klen = 2);
+}
+
+static void try_append_tombstone(void) {
+    begin("locker_append_tombstone");
+    under_each_rule(append_tombstone_limits);
+    under_neither_version(tombstone_append_of_a_version);
+    try_marks(true);
+    try_shared_marks(true);
 }
 
 /* ---- walk */
@@ -492,7 +694,7 @@ static uint32_t walk(const uint8_t *region, size_t length, size_t bound, size_t 
     uint64_t found = UNTOUCHED;
     *entry = no_entry;
     *place = UNTOUCHED;
-    uint32_t answer = locker_walk(region, length, bound, offset, entry, &found, place);
+    uint32_t answer = locker_walk(region, length, rule.version, rule.ordinal, bound, offset, entry, &found, place);
     CHECK(memcmp(kept, region, looked) == 0);
     free(kept);
     CHECK(answer == LOCKER_ACCEPTED ? found <= 1 : found == UNTOUCHED);
@@ -502,8 +704,7 @@ static uint32_t walk(const uint8_t *region, size_t length, size_t bound, size_t 
     return found == 1 ? FOUND : END;
 }
 
-static void try_walk(void) {
-    begin("locker_walk");
+static void walk_limits(void) {
     struct locker_entry entry;
     uint64_t place;
     uint8_t region[64] = {0};
@@ -576,7 +777,7 @@ static void try_walk(void) {
     }
     free(part);
     free(large);
-    /* the largest region: zeros, though the mark of 173,966,336 is 0; its last line; one byte more */
+    /* the largest region: zeros, though the mark of one line is 0; its last line; one byte more */
     CHECK(walk(big, largest, largest, 0, &entry, &place) == END);
     CHECK(walk(big, largest + 1, largest + 2, 0, &entry, &place) == LOCKER_REGION_TOO_LARGE);
     CHECK(walk(big, largest + 1, 0, 0, &entry, &place) == LOCKER_REGION_TOO_LARGE);
@@ -587,6 +788,64 @@ static void try_walk(void) {
     CHECK(walk(big, largest, largest - 16, largest - 32, &entry, &place) == END);
     CHECK(walk(big, largest - 1, largest - 1, largest - 32, &entry, &place) == END);
     memset(big + largest - 16, 0, 16);
+}
+
+static uint32_t walk_of_a_version(bool due) {
+    struct locker_entry entry;
+    uint64_t place;
+    uint8_t region[64] = {0};
+    put_sample(region);
+    return due ? walk(big, largest + 1, largest + 2, 0, &entry, &place) : walk(region, 64, 64, 0, &entry, &place);
+}
+
+/* Regions of 0xff: a line is of type 3 where the mark is 0xffffff, and no other line is anything. */
+static void walk_erased(void) {
+    struct locker_entry entry;
+    uint64_t place;
+    uint8_t erased[64];
+    memset(erased, 0xff, sizeof erased);
+    for (uint64_t ordinal = 0xA5E83A; ordinal <= 0xA5E841; ordinal++) {
+        for (unsigned version = LOCKER_VERSION_1; version <= LOCKER_VERSION_2; version++) {
+            rule = (struct rule){version, ordinal};
+            for (size_t length = 0; length <= 64; length++) {
+                bool met = line_of(0xffffff) + 8 <= length;
+                CHECK(walk(erased, length, length, 0, &entry, &place) == (met ? LOCKER_UNKNOWN_TYPE : END));
+                if (met) CHECK(place == line_of(0xffffff));
+            }
+        }
+    }
+    rule = (struct rule){LOCKER_VERSION_2, 0xA5E83F};
+    CHECK(walk(erased, 64, 64, 0, &entry, &place) == LOCKER_UNKNOWN_TYPE && place == 0);
+    rule = (struct rule){LOCKER_VERSION_2, 0x1A5E83F};
+    CHECK(walk(erased, 64, 64, 0, &entry, &place) == LOCKER_UNKNOWN_TYPE && place == 0);
+    memset(big, 0xff, largest);
+    rule = (struct rule){LOCKER_VERSION_1, 0xA5E83F};
+    CHECK(walk(big, largest, largest, 0, &entry, &place) == LOCKER_UNKNOWN_TYPE && place == 173966320);
+    rule = (struct rule){LOCKER_VERSION_2, 0xA5E840};
+    CHECK(walk(big, largest, largest, 0, &entry, &place) == LOCKER_UNKNOWN_TYPE && place == largest - 16);
+    memset(big, 0, largest);
+}
+
+static void try_walk(void) {
+    begin("locker_walk");
+    under_each_rule(walk_limits);
+    under_neither_version(walk_of_a_version);
+    walk_erased();
+    struct locker_entry entry;
+    uint64_t place;
+    uint8_t region[64] = {0};
+    for (size_t i = 0; i < LATER; i++) {
+        bool seen = recycle(region, i);
+        CHECK(walk(region, 64, 64, 0, &entry, &place) == (seen ? FOUND : END));
+        /* the later file's first entry is found, and behind it what it was before */
+        put_entry(region, 0, 0, 0, 2, (const uint8_t *)"B2", 2, (const uint8_t *)"5", 1);
+        CHECK(walk(region, 64, 64, 0, &entry, &place) == FOUND);
+        CHECK(same_entry(entry, entry_at(0, 0, LOCKER_INSERT, 2, 2, 1)));
+        CHECK(walk(region, 64, 64, 13, &entry, &place) == (seen ? FOUND : END));
+    }
+    share_marks(region);
+    for (size_t line = 0; line < 48; line += 16)
+        CHECK(walk(region, 64, 64, line, &entry, &place) == FOUND && entry.offset == line);
 }
 
 /* ---- parts */
@@ -651,15 +910,14 @@ static void try_used_bound(void) {
 
 static uint32_t durable_end(const uint8_t *region, size_t length, size_t bound, uint64_t *told) {
     uint64_t end = UNTOUCHED, place = UNTOUCHED;
-    uint32_t answer = locker_durable_end(region, length, bound, &end, &place);
+    uint32_t answer = locker_durable_end(region, length, rule.version, rule.ordinal, bound, &end, &place);
     CHECK(answer == LOCKER_ACCEPTED || end == UNTOUCHED);
     CHECK(answer == LOCKER_UNKNOWN_TYPE || place == UNTOUCHED);
     *told = answer == LOCKER_UNKNOWN_TYPE ? place : end;
     return answer;
 }
 
-static void try_durable_end(void) {
-    begin("locker_durable_end");
+static void durable_end_limits(void) {
     uint8_t region[64] = {0}, kept[64];
     uint64_t told;
     put_sample(region);
@@ -695,6 +953,35 @@ static void try_durable_end(void) {
     /* nothing but what this file put there, and took away again, has ever stood in the large region */
     memset(big + largest - 16, 0, 16);
     CHECK(all_are(big, largest + 1, 0));
+}
+
+static uint32_t durable_end_of_a_version(bool due) {
+    uint64_t told;
+    uint8_t region[64] = {0};
+    put_sample(region);
+    return due ? durable_end(big, largest + 1, largest + 2, &told) : durable_end(region, 64, 64, &told);
+}
+
+static void try_durable_end(void) {
+    begin("locker_durable_end");
+    under_each_rule(durable_end_limits);
+    under_neither_version(durable_end_of_a_version);
+    uint64_t told;
+    uint8_t region[64] = {0};
+    for (size_t i = 0; i < LATER; i++) {
+        bool seen = recycle(region, i);
+        CHECK(durable_end(region, 64, 64, &told) == LOCKER_ACCEPTED && told == (seen ? 48 : 0));
+        put_entry(region, 0, 0, 0, 2, (const uint8_t *)"B2", 2, (const uint8_t *)"5", 1);
+        CHECK(durable_end(region, 64, 64, &told) == LOCKER_ACCEPTED && told == (seen ? 48 : 16));
+    }
+    share_marks(region);
+    CHECK(durable_end(region, 64, 64, &told) == LOCKER_ACCEPTED && told == 48);
+    memset(region, 0xff, 64);
+    rule = (struct rule){LOCKER_VERSION_2, 0xA5E83F};
+    CHECK(durable_end(region, 64, 64, &told) == LOCKER_UNKNOWN_TYPE && told == 0);
+    CHECK(durable_end(region, 7, 7, &told) == LOCKER_ACCEPTED && told == 0);
+    rule = (struct rule){LOCKER_VERSION_1, 0xA5E83F};
+    CHECK(durable_end(region, 64, 64, &told) == LOCKER_ACCEPTED && told == 0);
 }
 
 /* ---- replay */

@@ -4,6 +4,26 @@ pub use original::{Slot, State};
 pub const MAX_REGION: usize = 268_435_456;
 pub const HEADER: usize = 4096;
 
+/// What a file's header says, and what decides its marks.
+#[derive(Debug, Clone, Copy, PartialEq, Eq)]
+pub struct Header {
+    pub version: u64,
+    pub ordinal: u64,
+}
+
+impl Header {
+    /// Document 02's request 10: a file is of one of two versions.
+    pub fn known(self) -> bool {
+        self.version == 1 || self.version == 2
+    }
+
+    /// The mark at an offset: document 01's, and in version 2 request 10's.
+    pub fn mark(self, p: u64) -> u32 {
+        let ordinal = if self.version == 2 { self.ordinal % (1 << 24) } else { 0 };
+        ((p / 16 + 0x5a_17c0 + ordinal) % (1 << 24)) as u32
+    }
+}
+
 /// A data region: all its bytes, or zeros with one run of bytes put over them. The second form is for regions of hundreds
 /// of megabytes, of which one place is of interest.
 #[derive(Debug, Clone, PartialEq, Eq)]
@@ -47,15 +67,17 @@ pub enum Call {
     },
     WriteHeader {
         lent: Vec<u8>,
-        ordinal: u64,
+        header: Header,
     },
     ReadAt {
         region: Region,
+        header: Header,
         place: u64,
         hint: u64,
     },
     AppendData {
         region: Region,
+        header: Header,
         used: u64,
         kind: u64,
         ns: u64,
@@ -64,18 +86,21 @@ pub enum Call {
     },
     AppendTombstone {
         region: Region,
+        header: Header,
         used: u64,
         ns: u64,
         key: Vec<u8>,
     },
     Walk {
         region: Region,
+        header: Header,
         bound: u64,
         offset: u64,
     },
     /// The walk repeated from 0, each time from the last entry's end. The original keeps its read buffer all along.
     Listing {
         region: Region,
+        header: Header,
         bound: u64,
     },
     Part {
@@ -88,6 +113,7 @@ pub enum Call {
     },
     DurableEnd {
         region: Region,
+        header: Header,
         bound: u64,
     },
     /// Header, used bound and durable end of a whole file, which the original's `open` does in one.
@@ -143,16 +169,16 @@ pub struct Operation {
 pub const OPERATIONS: &[Operation] = &[
     Operation { name: "checksum", answers: &["sum"] },
     Operation { name: "checksum, continued", answers: &["sum"] },
-    Operation { name: "header reader", answers: &["ordinal", "1", "2"] },
-    Operation { name: "header writer", answers: &["written", "1"] },
-    Operation { name: "read at a place", answers: &["insert", "update", "3", "5", "6", "7", "8", "9"] },
-    Operation { name: "append data", answers: &["used", "3", "5", "9", "17", "11", "12", "13"] },
-    Operation { name: "append tombstone", answers: &["used", "3", "5", "17", "11", "13"] },
-    Operation { name: "walk", answers: &["insert", "update", "tombstone", "End", "3", "4", "10"] },
-    Operation { name: "listing", answers: &["End", "3", "4", "10"] },
+    Operation { name: "header reader", answers: &["version 1", "version 2", "1", "2"] },
+    Operation { name: "header writer", answers: &["written", "1", "2"] },
+    Operation { name: "read at a place", answers: &["insert", "update", "2", "3", "5", "6", "7", "8", "9"] },
+    Operation { name: "append data", answers: &["used", "2", "3", "5", "9", "17", "11", "12", "13"] },
+    Operation { name: "append tombstone", answers: &["used", "2", "3", "5", "17", "11", "13"] },
+    Operation { name: "walk", answers: &["insert", "update", "tombstone", "End", "2", "3", "4", "10"] },
+    Operation { name: "listing", answers: &["End", "2", "3", "4", "10"] },
     Operation { name: "part", answers: &["part", "empty"] },
     Operation { name: "used bound", answers: &["bound", "0", "3"] },
-    Operation { name: "durable end", answers: &["end", "0", "3", "4", "10"] },
+    Operation { name: "durable end", answers: &["end", "0", "2", "3", "4", "10"] },
     Operation { name: "boot (open)", answers: &["opened", "1", "2", "10"] },
     Operation { name: "reserve", answers: &["reserved", "28", "14", "16", "15", "5", "3", "13"] },
     Operation { name: "complete", answers: &["Done", "Stale", "28", "14"] },
@@ -197,6 +223,25 @@ impl Call {
         }
     }
 
+    /// The version and the ordinal that a call on a region takes for its marks.
+    pub fn header(&self) -> Option<Header> {
+        match self {
+            Call::ReadAt { header, .. }
+            | Call::AppendData { header, .. }
+            | Call::AppendTombstone { header, .. }
+            | Call::Walk { header, .. }
+            | Call::Listing { header, .. }
+            | Call::DurableEnd { header, .. } => Some(*header),
+            _ => None,
+        }
+    }
+
+    /// Whether a version decides the answer.
+    pub fn has_version(&self) -> bool {
+        matches!(self, Call::ReadHeader { .. } | Call::WriteHeader { .. } | Call::Boot { .. })
+            || self.header().is_some()
+    }
+
     /// The name of an answer to this call, as the table has it.
     pub fn answer_name(&self, said: &Said) -> String {
         if said.number != 0 {
@@ -204,6 +249,13 @@ impl Call {
         }
         let first = said.values.first().copied();
         let name = match self {
+            Call::ReadHeader { .. } => {
+                if first == Some(2) {
+                    "version 2"
+                } else {
+                    "version 1"
+                }
+            }
             Call::ReadAt { .. } => {
                 if said.values.get(1) == Some(&0) {
                     "insert"

@@ -1,6 +1,6 @@
 //! Calls as bytes: for the recorded answers, and for printing a call so that it can be asked again. README.md describes the
 //! format. Every call is an operation's number, then its numbers, then its runs of bytes, so one table has them all.
-use crate::calls::{Call, Region, Said, Slot, State, Step};
+use crate::calls::{Call, Header, Region, Said, Slot, State, Step};
 
 /// A call taken apart.
 #[derive(Clone, PartialEq, Eq)]
@@ -15,10 +15,12 @@ pub struct Parts {
 fn shape(op: u8) -> Option<(usize, usize)> {
     Some(match op {
         1 | 2 | 8 | 25 => (0, 1),
-        3 | 9 | 21 | 22 | 23 => (1, 1),
-        4 | 7 | 24 => (2, 1),
-        5 => (3, 3),
-        6 => (2, 2),
+        21 | 22 => (1, 1),
+        3 | 24 => (2, 1),
+        9 | 23 => (3, 1),
+        4 | 7 => (4, 1),
+        5 => (5, 3),
+        6 => (4, 2),
         11 => (6, 0),
         12 | 19 => (3, 0),
         13 | 14 | 15 | 20 => (2, 0),
@@ -50,20 +52,23 @@ fn step_parts(step: &Step) -> (u8, Vec<u64>) {
 impl Call {
     pub fn parts(&self) -> Parts {
         let parts = |op, numbers: &[u64], blobs| Parts { op, numbers: numbers.to_vec(), blobs, state: None };
+        let under = |op, header: &Header, numbers: &[u64], blobs| {
+            parts(op, &[&[header.version, header.ordinal][..], numbers].concat(), blobs)
+        };
         match self {
             Call::Hash { bytes } => parts(1, &[], vec![dense(bytes)]),
             Call::ReadHeader { bytes } => parts(2, &[], vec![dense(bytes)]),
-            Call::WriteHeader { lent, ordinal } => parts(3, &[*ordinal], vec![dense(lent)]),
-            Call::ReadAt { region, place, hint } => parts(4, &[*place, *hint], vec![region.clone()]),
-            Call::AppendData { region, used, kind, ns, key, value } => {
-                parts(5, &[*used, *kind, *ns], vec![region.clone(), dense(key), dense(value)])
+            Call::WriteHeader { lent, header } => under(3, header, &[], vec![dense(lent)]),
+            Call::ReadAt { region, header, place, hint } => under(4, header, &[*place, *hint], vec![region.clone()]),
+            Call::AppendData { region, header, used, kind, ns, key, value } => {
+                under(5, header, &[*used, *kind, *ns], vec![region.clone(), dense(key), dense(value)])
             }
-            Call::AppendTombstone { region, used, ns, key } => {
-                parts(6, &[*used, *ns], vec![region.clone(), dense(key)])
+            Call::AppendTombstone { region, header, used, ns, key } => {
+                under(6, header, &[*used, *ns], vec![region.clone(), dense(key)])
             }
-            Call::Walk { region, bound, offset } => parts(7, &[*bound, *offset], vec![region.clone()]),
+            Call::Walk { region, header, bound, offset } => under(7, header, &[*bound, *offset], vec![region.clone()]),
             Call::UsedBound { region } => parts(8, &[], vec![region.clone()]),
-            Call::DurableEnd { region, bound } => parts(9, &[*bound], vec![region.clone()]),
+            Call::DurableEnd { region, header, bound } => under(9, header, &[*bound], vec![region.clone()]),
             Call::Track { state, step } => {
                 let (op, numbers) = step_parts(step);
                 Parts { op, numbers, blobs: vec![], state: Some(state.clone()) }
@@ -75,7 +80,7 @@ impl Call {
                 parts(21, &[*cursor], vec![dense(&bytes)])
             }
             Call::Update { state, bytes } => parts(22, &[u64::from(*state)], vec![dense(bytes)]),
-            Call::Listing { region, bound } => parts(23, &[*bound], vec![region.clone()]),
+            Call::Listing { region, header, bound } => under(23, header, &[*bound], vec![region.clone()]),
             Call::Part { region, at, len } => parts(24, &[*at, *len], vec![region.clone()]),
             Call::Boot { file } => parts(25, &[], vec![dense(file)]),
         }
@@ -90,6 +95,7 @@ impl Parts {
             return None;
         }
         let n = |i: usize| self.numbers[i];
+        let header = || Header { version: n(0), ordinal: n(1) };
         let region = || self.blobs[0].clone();
         let bytes = |i: usize| match &self.blobs[i] {
             Region::Dense(bytes) => Some(bytes.clone()),
@@ -101,20 +107,21 @@ impl Parts {
         Some(match self.op {
             1 => Call::Hash { bytes: bytes(0)? },
             2 => Call::ReadHeader { bytes: bytes(0)? },
-            3 => Call::WriteHeader { lent: bytes(0)?, ordinal: n(0) },
-            4 => Call::ReadAt { region: region(), place: n(0), hint: n(1) },
+            3 => Call::WriteHeader { lent: bytes(0)?, header: header() },
+            4 => Call::ReadAt { region: region(), header: header(), place: n(2), hint: n(3) },
             5 => Call::AppendData {
                 region: region(),
-                used: n(0),
-                kind: n(1),
-                ns: n(2),
+                header: header(),
+                used: n(2),
+                kind: n(3),
+                ns: n(4),
                 key: bytes(1)?,
                 value: bytes(2)?,
             },
-            6 => Call::AppendTombstone { region: region(), used: n(0), ns: n(1), key: bytes(1)? },
-            7 => Call::Walk { region: region(), bound: n(0), offset: n(1) },
+            6 => Call::AppendTombstone { region: region(), header: header(), used: n(2), ns: n(3), key: bytes(1)? },
+            7 => Call::Walk { region: region(), header: header(), bound: n(2), offset: n(3) },
             8 => Call::UsedBound { region: region() },
-            9 => Call::DurableEnd { region: region(), bound: n(0) },
+            9 => Call::DurableEnd { region: region(), header: header(), bound: n(2) },
             19 => Call::ReplayData { klen: n(0), vlen: n(1), maximum: n(2) },
             20 => Call::ReplayTombstone { klen: n(0), maximum: n(1) },
             21 => {
@@ -123,7 +130,7 @@ impl Parts {
                 Call::StartFile { ordinals, cursor: n(0) }
             }
             22 => Call::Update { state: n(0) as u16, bytes: bytes(0)? },
-            23 => Call::Listing { region: region(), bound: n(0) },
+            23 => Call::Listing { region: region(), header: header(), bound: n(2) },
             24 => Call::Part { region: Region::Dense(bytes(0)?), at: n(0), len: n(1) },
             _ => Call::Boot { file: bytes(0)? },
         })

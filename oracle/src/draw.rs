@@ -1,23 +1,30 @@
 //! Inputs at random: logs, damaged logs, nested entries, entries flush with the region's end, marks without entries, and
 //! traces of the tracker. Most are small, because most that can go wrong does so on a few lines.
 use crate::{
-    calls::{up16, Call, Region, Said, Slot, State, Step, HEADER, MAX_REGION},
+    calls::{up16, Call, Header, Region, Said, Slot, State, Step, HEADER, MAX_REGION},
     rng::Rng,
 };
 
 /// The original's walk reads so many bytes at once.
 const BUFFER_END: usize = 131_072;
 
-/// Document 01: the mark is 0 here.
-pub const MARK_ZERO: usize = 173_966_336;
+/// In version 2 the mark at offset 0 of a file with this ordinal is 0xFFFFFF: a line of filling is a type 3 line there.
+pub const FILLING_ORDINAL: u64 = 0xa5_e83f;
 
-pub fn mark(p: usize) -> u32 {
-    ((p as u64 / 16 + 0x5a_17c0) % (1 << 24)) as u32
+/// Versions that no file has: some are cut to 1 or 2 where a byte, or 32 bits, are kept of them.
+pub const NO_VERSIONS: [u64; 7] = [0, 3, 0x101, 0x102, (1 << 32) + 1, (1 << 32) + 2, u64::MAX];
+
+/// A call that is drawn for its place in the stream alone has this.
+const PLAIN: Header = Header { version: 1, ordinal: 0 };
+
+/// The line whose mark is 0.
+pub fn mark_zero(header: Header) -> usize {
+    ((1 << 24) - header.mark(0) as usize) % (1 << 24) * 16
 }
 
 /// An entry's bytes without filling, of any type and layout, and with a right checksum.
-pub fn entry(p: usize, kind: u32, ns: u32, tombstone: bool, key: &[u8], value: &[u8]) -> Vec<u8> {
-    let mut bytes = (mark(p) | ns << 24 | kind << 30).to_le_bytes().to_vec();
+pub fn entry(header: Header, p: usize, kind: u32, ns: u32, tombstone: bool, key: &[u8], value: &[u8]) -> Vec<u8> {
+    let mut bytes = (header.mark(p as u64) | ns << 24 | kind << 30).to_le_bytes().to_vec();
     bytes.extend((key.len() as u16).to_le_bytes());
     if !tombstone {
         bytes.extend((value.len() as u16).to_le_bytes());
@@ -43,6 +50,11 @@ pub fn fresh_state() -> State {
 
 pub struct Draw {
     pub rng: Rng,
+    /// Versions and ordinals have a stream of their own.
+    versions: Rng,
+    /// What the call is given, and whose marks its region is built with.
+    header: Header,
+    built: Header,
     trace: State,
     steps_left: u32,
     /// In a trace, how many shards are used and how often a delta is recorded, so that queues fill in some of them.
@@ -52,10 +64,36 @@ pub struct Draw {
 
 impl Draw {
     pub fn new(seed: u64) -> Self {
-        Draw { rng: Rng::new(seed), trace: fresh_state(), steps_left: 0, shards: 1, records: 1 }
+        Draw {
+            rng: Rng::new(seed),
+            versions: Rng::new(!seed),
+            header: PLAIN,
+            built: PLAIN,
+            trace: fresh_state(),
+            steps_left: 0,
+            shards: 1,
+            records: 1,
+        }
     }
 
+    /// A call with a version is drawn twice from one place of the stream, since it depends on the region's bytes how
+    /// much of the stream a draw takes: first with version 1's marks, for the place at which the next call begins, so
+    /// that a seed's other calls are the same whatever the versions; then with its own.
     pub fn call(&mut self) -> Call {
+        let begin = self.rng.clone();
+        let call = self.some_call();
+        if !call.has_version() {
+            return call;
+        }
+        let next = std::mem::replace(&mut self.rng, begin);
+        self.header = self.some_header();
+        self.built = self.builder();
+        let call = self.some_call();
+        (self.rng, self.header, self.built) = (next, PLAIN, PLAIN);
+        call
+    }
+
+    fn some_call(&mut self) -> Call {
         match self.rng.below(100) {
             0..=2 => self.hash(),
             3..=6 => self.header(),
@@ -78,6 +116,40 @@ impl Draw {
     pub fn learn(&mut self, said: &Said) {
         if let Some(state) = &said.state {
             self.trace = (**state).clone();
+        }
+    }
+
+    // ---- versions
+
+    /// About half of version 1, whose marks don't depend on the ordinal, half of version 2, and some of neither.
+    fn some_header(&mut self) -> Header {
+        let rng = &mut self.versions;
+        let version = match rng.below(16) {
+            0 => rng.pick(&NO_VERSIONS),
+            1..=8 => 2,
+            _ => 1,
+        };
+        let ordinal = match rng.below(8) {
+            0..=1 => rng.below(8),
+            2 => FILLING_ORDINAL + 2 - rng.below(24),
+            3 => (rng.within(1, 4) << 24) + 2 - rng.below(5),
+            4 => u64::MAX - rng.below(4),
+            _ => rng.next() >> rng.below(64),
+        };
+        Header { version, ordinal }
+    }
+
+    /// Mostly the call's own header. Else the card is a recycled one: the region was written in another file, whose
+    /// marks may still be the same.
+    fn builder(&mut self) -> Header {
+        match self.versions.below(8) {
+            0 => self.some_header(),
+            1 => {
+                let steps = [1, 1 << 16, 1 << 23, 1 << 24, 1 << 32, u64::MAX, u64::MAX << 24];
+                let ordinal = self.header.ordinal.wrapping_add(self.versions.pick(&steps));
+                Header { ordinal, ..self.header }
+            }
+            _ => self.header,
         }
     }
 
@@ -123,7 +195,7 @@ impl Draw {
         let tombstone = if self.rng.once_in(16) { self.rng.once_in(2) } else { kind == 2 };
         let ns = self.rng.below(64) as u32;
         let (key, value) = (self.rng.bytes(klen), self.rng.bytes(vlen));
-        entry(p, kind, ns, tombstone, &key, &value)
+        entry(self.built, p, kind, ns, tombstone, &key, &value)
     }
 
     fn some_line(&mut self, length: usize) -> usize {
@@ -166,7 +238,7 @@ impl Draw {
             3 => self.nested(region, line),
             4 => {
                 let lengths = self.rng.pick(&[0u32, 1, 0xffff, 0xffff_ffff, 0x0010_0010]).to_le_bytes();
-                let word = (mark(line) | (self.rng.next() as u32) << 24).to_le_bytes();
+                let word = (self.built.mark(line as u64) | (self.rng.next() as u32) << 24).to_le_bytes();
                 put(region, line, &[word, lengths].concat());
             }
             5 => put(region, line + 3, &[self.rng.next() as u8]),
@@ -216,7 +288,7 @@ impl Draw {
         if klen <= 65_535 && vlen <= 65_535 {
             let (key, value) = (self.rng.bytes(klen), self.rng.bytes(vlen));
             let kind = if tombstone { 2 } else { self.rng.below(2) as u32 };
-            put(region, line, &entry(line, kind, 1, tombstone, &key, &value));
+            put(region, line, &entry(self.built, line, kind, 1, tombstone, &key, &value));
         }
     }
 
@@ -229,7 +301,7 @@ impl Draw {
             let inner = self.some_entry(p, 100);
             put(&mut value, 8 + 16 * i, &inner);
         }
-        let mut outer = entry(line, self.rng.below(2) as u32, 2, false, b"outer", &value);
+        let mut outer = entry(self.built, line, self.rng.below(2) as u32, 2, false, b"outer", &value);
         if self.rng.once_in(2) {
             let last = outer.len() - 1;
             outer[last] ^= 1;
@@ -261,7 +333,8 @@ impl Draw {
 
     /// A region of the largest size, or one byte more, of which a few lines around the mark 0 are of interest.
     fn sparse(&mut self) -> (Region, usize) {
-        let line = MARK_ZERO + 16 * self.rng.below(5) as usize - 32;
+        let zero = mark_zero(self.built).clamp(32, MAX_REGION - 4096);
+        let line = zero + 16 * self.rng.below(5) as usize - 32;
         let mut bytes = if self.rng.once_in(2) { self.some_entry(line, 100) } else { vec![0; 8] };
         if self.rng.once_in(2) {
             self.disturb(&mut bytes);
@@ -294,10 +367,11 @@ impl Draw {
         }
     }
 
-    /// A line of the region with the right mark.
+    /// A line of the region with the mark that it was built with.
     fn entry_line(&mut self, region: &Region) -> Option<u64> {
         let Region::Dense(bytes) = region else { return None };
-        let marked = |p: usize| bytes.len() >= p + 4 && bytes[p..p + 3] == mark(p).to_le_bytes()[..3];
+        let built = self.built;
+        let marked = |p: usize| bytes.len() >= p + 4 && bytes[p..p + 3] == built.mark(p as u64).to_le_bytes()[..3];
         let lines: Vec<usize> = (0..bytes.len().min(8192)).step_by(16).filter(|&p| marked(p)).collect();
         if lines.is_empty() {
             None
@@ -325,20 +399,20 @@ impl Draw {
     fn read_at(&mut self) -> Call {
         if self.rng.once_in(60) {
             let (region, line) = self.sparse();
-            return Call::ReadAt { region, place: line as u64, hint: 512 };
+            return Call::ReadAt { region, header: self.header, place: line as u64, hint: 512 };
         }
         let mut region = self.bytes_of_region();
         // Whole entries of types 2 and 3 in a data entry's layout are met too seldom otherwise.
         if self.rng.once_in(10) {
             let line = self.some_line(region.len());
             let (kind, klen, vlen) = (self.rng.within(1, 3) as u32, self.short(), self.short());
-            let bytes = entry(line, kind, 5, false, &self.rng.bytes(klen), &self.rng.bytes(vlen));
+            let bytes = entry(self.built, line, kind, 5, false, &self.rng.bytes(klen), &self.rng.bytes(vlen));
             put(&mut region, line, &bytes);
         }
         let region = Region::Dense(region);
         let place = self.place(&region);
         let hint = self.hint(&region, place);
-        Call::ReadAt { region, place, hint }
+        Call::ReadAt { region, header: self.header, place, hint }
     }
 
     fn namespace(&mut self) -> u64 {
@@ -400,9 +474,9 @@ impl Draw {
             _ => Region::Dense(vec![3; 64]),
         };
         if self.rng.once_in(3) {
-            return Call::AppendTombstone { region, used, ns, key };
+            return Call::AppendTombstone { region, header: self.header, used, ns, key };
         }
-        Call::AppendData { region, used, kind, ns, key, value }
+        Call::AppendData { region, header: self.header, used, kind, ns, key, value }
     }
 
     fn append_data(&mut self) -> Call {
@@ -414,22 +488,22 @@ impl Draw {
         let ns = self.namespace();
         if self.rng.once_in(60) {
             let (region, line) = self.sparse();
-            return Call::AppendData { region, used: line as u64, kind, ns, key, value };
+            return Call::AppendData { region, header: self.header, used: line as u64, kind, ns, key, value };
         }
         let used = self.used();
         let region = self.append_region(used, (10 + key.len() + value.len()) as u64);
-        Call::AppendData { region, used, kind, ns, key, value }
+        Call::AppendData { region, header: self.header, used, kind, ns, key, value }
     }
 
     fn append_tombstone(&mut self) -> Call {
         let (key, ns) = (self.run(4096), self.namespace());
         if self.rng.once_in(60) {
             let (region, line) = self.sparse();
-            return Call::AppendTombstone { region, used: line as u64, ns, key };
+            return Call::AppendTombstone { region, header: self.header, used: line as u64, ns, key };
         }
         let used = self.used();
         let region = self.append_region(used, (8 + key.len()) as u64);
-        Call::AppendTombstone { region, used, ns, key }
+        Call::AppendTombstone { region, header: self.header, used, ns, key }
     }
 
     fn bound(&mut self, length: usize) -> u64 {
@@ -446,11 +520,12 @@ impl Draw {
         if self.rng.once_in(60) {
             let (region, line) = self.sparse();
             let bound = (line as u64 + self.rng.below(300)).min(region.len() as u64);
-            return Call::Walk { region, bound, offset: line as u64 - self.rng.below(64) };
+            let offset = (line as u64).saturating_sub(self.rng.below(64));
+            return Call::Walk { region, header: self.header, bound, offset };
         }
         let region = self.dense();
         if let Region::Sparse { length, .. } = region {
-            return Call::Walk { region, bound: length as u64, offset: 0 };
+            return Call::Walk { region, header: self.header, bound: length as u64, offset: 0 };
         }
         let length = region.len() as u64;
         let bound = self.bound(region.len());
@@ -461,19 +536,19 @@ impl Draw {
             10..=13 => self.entry_line(&region).unwrap_or(0).saturating_sub(self.rng.below(40)),
             _ => self.rng.below(length + 1),
         };
-        Call::Walk { region, bound, offset }
+        Call::Walk { region, header: self.header, bound, offset }
     }
 
     fn listing(&mut self) -> Call {
         let region = self.dense();
         let bound = self.bound(region.len());
-        Call::Listing { region, bound }
+        Call::Listing { region, header: self.header, bound }
     }
 
     fn durable_end(&mut self) -> Call {
         let region = self.dense();
         let bound = self.bound(region.len());
-        Call::DurableEnd { region, bound }
+        Call::DurableEnd { region, header: self.header, bound }
     }
 
     fn part(&mut self) -> Call {
@@ -497,8 +572,9 @@ impl Draw {
     fn head(&mut self) -> Vec<u8> {
         let mut bytes = vec![0; HEADER];
         bytes[..8].copy_from_slice(b"LOCKDAT1");
-        bytes[8] = 1;
-        let ordinal = self.rng.next() >> self.rng.below(64);
+        bytes[8..12].copy_from_slice(&(self.header.version as u32).to_le_bytes());
+        let any = self.rng.next() >> self.rng.below(64);
+        let ordinal = if self.header.version == 1 { any } else { self.header.ordinal };
         bytes[16..24].copy_from_slice(&ordinal.to_le_bytes());
         match self.rng.below(8) {
             0 => bytes[self.rng.below(12) as usize] ^= 1 << self.rng.below(8),
@@ -516,7 +592,8 @@ impl Draw {
     fn header(&mut self) -> Call {
         if self.rng.once_in(3) {
             let length = if self.rng.once_in(4) { self.rng.below(4200) } else { 4096 + self.rng.below(40) };
-            return Call::WriteHeader { lent: self.rng.bytes(length as usize), ordinal: self.rng.next() };
+            let lent = self.rng.bytes(length as usize);
+            return Call::WriteHeader { lent, header: Header { ordinal: self.rng.next(), ..self.header } };
         }
         let mut bytes = self.head();
         if self.rng.once_in(3) {

@@ -1,13 +1,27 @@
 //! Inputs that are the same in every run: short ones, all of them, and every limit with its neighbours.
 use crate::{
-    calls::{up16, Call, Region, Slot, State, Step, HEADER, MAX_REGION},
-    draw::{entry, fresh_state, mark, put, MARK_ZERO},
+    calls::{up16, Call, Header, Region, Slot, State, Step, HEADER, MAX_REGION},
+    draw::{self, fresh_state, mark_zero, put, FILLING_ORDINAL, NO_VERSIONS},
 };
 
 type Calls = Box<dyn Iterator<Item = Call>>;
 
+/// Document 01: in version 1 the mark is 0 here.
+const MARK_ZERO: usize = 173_966_336;
+
+/// A file of version 1. Its ordinal must have no effect.
+pub const FIRST: Header = Header { version: 1, ordinal: 0xfedc_ba98_7654_3210 };
+
+pub fn second(ordinal: u64) -> Header {
+    Header { version: 2, ordinal }
+}
+
 fn region(bytes: Vec<u8>) -> Region {
     Region::Dense(bytes)
+}
+
+fn entry(p: usize, kind: u32, ns: u32, tombstone: bool, key: &[u8], value: &[u8]) -> Vec<u8> {
+    draw::entry(FIRST, p, kind, ns, tombstone, key, value)
 }
 
 /// Every string of at most two bytes.
@@ -22,7 +36,7 @@ fn all_sums_of_one_entry() -> Calls {
     let tombstone = (0..65_536u32).map(|sum| {
         let mut bytes = entry(0, 2, 1, true, &[], &[]);
         bytes[6..8].copy_from_slice(&(sum as u16).to_le_bytes());
-        Call::Walk { region: region(bytes), bound: 8, offset: 0 }
+        Call::Walk { header: FIRST, region: region(bytes), bound: 8, offset: 0 }
     });
     let data = (0..65_536u32).step_by(16).flat_map(|low| {
         let right = entry(0, 0, 1, false, &[], &[]);
@@ -30,8 +44,8 @@ fn all_sums_of_one_entry() -> Calls {
         let mut bytes = right;
         bytes[8..10].copy_from_slice(&sum.to_le_bytes());
         [
-            Call::ReadAt { region: region(bytes.clone()), place: 0, hint: 10 },
-            Call::Walk { region: region(bytes), bound: 10, offset: 0 },
+            Call::ReadAt { header: FIRST, region: region(bytes.clone()), place: 0, hint: 10 },
+            Call::Walk { header: FIRST, region: region(bytes), bound: 10, offset: 0 },
         ]
     });
     Box::new(tombstone.chain(data))
@@ -45,9 +59,9 @@ fn words() -> Calls {
         if wrong {
             bytes[5] ^= 0x80;
         }
-        let place = Call::ReadAt { region: region(bytes.clone()), place: 0, hint: 512 };
+        let place = Call::ReadAt { header: FIRST, region: region(bytes.clone()), place: 0, hint: 512 };
         let bound = bytes.len() as u64;
-        [place, Call::Walk { region: region(bytes), bound, offset: 0 }]
+        [place, Call::Walk { header: FIRST, region: region(bytes), bound, offset: 0 }]
     }))
 }
 
@@ -72,8 +86,11 @@ fn short_walks() -> Calls {
             let n = length as u64;
             let walks = (0..=n + 1).flat_map(move |bound| (0..=n + 1).map(move |offset| (bound, offset)));
             let kept = bytes.clone();
-            let ends = (0..=n + 1).map(move |bound| Call::DurableEnd { region: region(kept.clone()), bound });
-            walks.map(move |(bound, offset)| Call::Walk { region: region(bytes.clone()), bound, offset }).chain(ends)
+            let ends =
+                (0..=n + 1).map(move |bound| Call::DurableEnd { header: FIRST, region: region(kept.clone()), bound });
+            walks
+                .map(move |(bound, offset)| Call::Walk { header: FIRST, region: region(bytes.clone()), bound, offset })
+                .chain(ends)
         })
     }))
 }
@@ -98,7 +115,7 @@ fn short_reads() -> Calls {
         (0..=length as u64 + 17).flat_map(move |place| {
             let bytes = bytes.clone();
             let hints = (0..=20).chain([u64::MAX >> 1, 1 << 63, u64::MAX]);
-            hints.map(move |hint| Call::ReadAt { region: region(bytes.clone()), place, hint })
+            hints.map(move |hint| Call::ReadAt { header: FIRST, region: region(bytes.clone()), place, hint })
         })
     }))
 }
@@ -109,9 +126,11 @@ fn short_appends() -> Calls {
         (0..=length as u64 + 17).filter(|used| used % 16 < 2).flat_map(move |used| {
             (0..=8usize).flat_map(move |klen| {
                 let (lent, key) = (region(vec![7; length]), vec![b'k'; klen]);
-                let tombstone = Call::AppendTombstone { region: lent.clone(), used, ns: 1, key: key.clone() };
+                let tombstone =
+                    Call::AppendTombstone { header: FIRST, region: lent.clone(), used, ns: 1, key: key.clone() };
                 let data = [0usize, 1, 6].map(|vlen| Call::AppendData {
                     region: lent.clone(),
+                    header: FIRST,
                     used,
                     kind: vlen as u64 % 2,
                     ns: 63,
@@ -135,10 +154,11 @@ fn small_logs() -> Calls {
             p += up16(written.len() as u64) as usize;
         }
         let lent = region(bytes);
-        let reads = (0..4u64).map(|line| Call::ReadAt { region: lent.clone(), place: 16 * line, hint: 512 });
+        let reads =
+            (0..4u64).map(|line| Call::ReadAt { header: FIRST, region: lent.clone(), place: 16 * line, hint: 512 });
         let mut calls: Vec<Call> = reads.collect();
-        calls.push(Call::Listing { region: lent.clone(), bound: 64 });
-        calls.push(Call::DurableEnd { region: lent.clone(), bound: 64 });
+        calls.push(Call::Listing { header: FIRST, region: lent.clone(), bound: 64 });
+        calls.push(Call::DurableEnd { header: FIRST, region: lent.clone(), bound: 64 });
         calls.push(Call::UsedBound { region: lent });
         calls
     }))
@@ -239,10 +259,17 @@ fn reserve_limits() -> Calls {
     }))
 }
 
-fn header_limits() -> Calls {
+/// A file's header; of its version the four bytes that it has.
+fn head(header: Header) -> Vec<u8> {
     let mut head = vec![0; HEADER];
-    head[..9].copy_from_slice(b"LOCKDAT1\x01");
-    head[16..24].copy_from_slice(&u64::MAX.to_le_bytes());
+    head[..8].copy_from_slice(b"LOCKDAT1");
+    head[8..12].copy_from_slice(&(header.version as u32).to_le_bytes());
+    head[16..24].copy_from_slice(&header.ordinal.to_le_bytes());
+    head
+}
+
+fn header_limits() -> Calls {
+    let head = head(Header { version: 1, ordinal: u64::MAX });
     let kept = head.clone();
     let lengths = [0, 1, 24, 4094, 4095, 4096, 4097, 8192].map(|length| {
         let mut bytes = kept.clone();
@@ -254,8 +281,8 @@ fn header_limits() -> Calls {
         bytes[bit / 8] ^= 1 << (bit % 8);
         Call::ReadHeader { bytes }
     });
-    let writes =
-        [0, 1, 4095, 4096, 4097, 5000].map(|length| Call::WriteHeader { lent: vec![9; length], ordinal: u64::MAX - 1 });
+    let header = Header { version: 1, ordinal: u64::MAX - 1 };
+    let writes = [0, 1, 4095, 4096, 4097, 5000].map(|length| Call::WriteHeader { lent: vec![9; length], header });
     Box::new(lengths.into_iter().chain(bits).chain(writes))
 }
 
@@ -263,10 +290,11 @@ fn append_limits() -> Calls {
     let lent = |length: usize| region(vec![1; length]);
     let mut calls = Vec::new();
     for klen in [0, 1, 4095, 4096, 4097, 65_535, 65_536, 65_537] {
-        calls.push(Call::AppendTombstone { region: lent(70_000), used: 16, ns: 63, key: vec![2; klen] });
+        calls.push(Call::AppendTombstone { header: FIRST, region: lent(70_000), used: 16, ns: 63, key: vec![2; klen] });
         for vlen in [0, 1, 32_767, 32_768, 32_769, 65_535, 65_536, 65_537] {
             calls.push(Call::AppendData {
                 region: lent(140_000),
+                header: FIRST,
                 used: 0,
                 kind: 1,
                 ns: 0,
@@ -276,19 +304,35 @@ fn append_limits() -> Calls {
         }
     }
     for ns in [0, 63, 64, 255, 256, u64::MAX] {
-        calls.push(Call::AppendTombstone { region: lent(64), used: 0, ns, key: vec![] });
+        calls.push(Call::AppendTombstone { header: FIRST, region: lent(64), used: 0, ns, key: vec![] });
         for kind in [0, 1, 2, 3, 4, u64::MAX] {
-            calls.push(Call::AppendData { region: lent(64), used: 0, kind, ns, key: vec![], value: vec![] });
+            calls.push(Call::AppendData {
+                header: FIRST,
+                region: lent(64),
+                used: 0,
+                kind,
+                ns,
+                key: vec![],
+                value: vec![],
+            });
         }
     }
     // The largest writable entry, and one byte of room too few.
     for length in [36_879, 36_880, 36_881] {
         let (key, value) = (vec![4; 4096], vec![5; 32_768]);
-        calls.push(Call::AppendData { region: lent(length), used: 0, kind: 0, ns: 1, key, value });
+        calls.push(Call::AppendData { header: FIRST, region: lent(length), used: 0, kind: 0, ns: 1, key, value });
     }
     for used in [u64::MAX, u64::MAX - 15, u64::MAX - 31, 1 << 63, 48, 64, 80] {
-        calls.push(Call::AppendTombstone { region: lent(64), used, ns: 1, key: vec![] });
-        calls.push(Call::AppendData { region: lent(64), used, kind: 0, ns: 1, key: vec![], value: vec![] });
+        calls.push(Call::AppendTombstone { header: FIRST, region: lent(64), used, ns: 1, key: vec![] });
+        calls.push(Call::AppendData {
+            header: FIRST,
+            region: lent(64),
+            used,
+            kind: 0,
+            ns: 1,
+            key: vec![],
+            value: vec![],
+        });
     }
     Box::new(calls.into_iter())
 }
@@ -301,10 +345,10 @@ fn place_limits() -> Calls {
     let hints = [0, 7, 8, 11, 12, 13, 1 << 40, (1 << 63) - 1, 1 << 63, u64::MAX];
     // An entry one byte past a line, whose mark is that line's: the original reads it.
     let past_a_line = [&[0], &bytes[..]].concat();
-    let off_line = Call::ReadAt { region: region(past_a_line), place: 1, hint: 12 };
+    let off_line = Call::ReadAt { header: FIRST, region: region(past_a_line), place: 1, hint: 12 };
     let limits = places.into_iter().flat_map(move |place| {
         let bytes = bytes.clone();
-        hints.into_iter().map(move |hint| Call::ReadAt { region: region(bytes.clone()), place, hint })
+        hints.into_iter().map(move |hint| Call::ReadAt { header: FIRST, region: region(bytes.clone()), place, hint })
     });
     Box::new(std::iter::once(off_line).chain(limits))
 }
@@ -320,9 +364,9 @@ fn long_entries() -> Calls {
                 bytes.extend(&whole[..whole.len() - short]);
                 let (lent, n) = (region(bytes.clone()), (p + whole.len() - short) as u64);
                 [
-                    Call::Walk { region: lent.clone(), bound: n, offset: 0 },
-                    Call::ReadAt { region: lent.clone(), place: p as u64, hint: 200_000 },
-                    Call::DurableEnd { region: lent, bound: n },
+                    Call::Walk { header: FIRST, region: lent.clone(), bound: n, offset: 0 },
+                    Call::ReadAt { header: FIRST, region: lent.clone(), place: p as u64, hint: 200_000 },
+                    Call::DurableEnd { header: FIRST, region: lent, bound: n },
                 ]
             })
         })
@@ -338,25 +382,38 @@ fn large_regions() -> Calls {
             let bytes = bytes[..bytes.len().min(length - MARK_ZERO)].to_vec();
             let lent = Region::Sparse { length, at: MARK_ZERO, bytes };
             let p = MARK_ZERO as u64;
-            calls.push(Call::Walk { region: lent.clone(), bound: (p + 64).min(length as u64), offset: p - 17 });
-            calls.push(Call::ReadAt { region: lent.clone(), place: p, hint: 512 });
-            calls.push(Call::AppendData { region: lent.clone(), used: p, kind: 0, ns: 0, key: vec![], value: vec![] });
-            calls.push(Call::AppendTombstone { region: lent, used: p, ns: 0, key: b"key".to_vec() });
+            calls.push(Call::Walk {
+                header: FIRST,
+                region: lent.clone(),
+                bound: (p + 64).min(length as u64),
+                offset: p - 17,
+            });
+            calls.push(Call::ReadAt { header: FIRST, region: lent.clone(), place: p, hint: 512 });
+            calls.push(Call::AppendData {
+                header: FIRST,
+                region: lent.clone(),
+                used: p,
+                kind: 0,
+                ns: 0,
+                key: vec![],
+                value: vec![],
+            });
+            calls.push(Call::AppendTombstone { header: FIRST, region: lent, used: p, ns: 0, key: b"key".to_vec() });
         }
     }
     let too_large = Region::Sparse { length: MAX_REGION + 1, at: 0, bytes: vec![] };
     calls.push(Call::UsedBound { region: too_large.clone() });
-    calls.push(Call::DurableEnd { region: too_large, bound: MAX_REGION as u64 + 1 });
+    calls.push(Call::DurableEnd { header: FIRST, region: too_large, bound: MAX_REGION as u64 + 1 });
     let last = MAX_REGION - 16;
     let flush = Region::Sparse { length: MAX_REGION, at: last, bytes: entry(last, 2, 1, true, b"A7", &[]) };
     let n = MAX_REGION as u64;
-    calls.push(Call::Walk { region: flush.clone(), bound: n, offset: n - 40 });
+    calls.push(Call::Walk { header: FIRST, region: flush.clone(), bound: n, offset: n - 40 });
     calls.push(Call::UsedBound { region: flush.clone() });
-    calls.push(Call::DurableEnd { region: flush, bound: n });
+    calls.push(Call::DurableEnd { header: FIRST, region: flush, bound: n });
     let zero = Region::Sparse { length: MAX_REGION, at: MARK_ZERO, bytes: entry(MARK_ZERO, 1, 0, false, &[], &[]) };
     calls.push(Call::UsedBound { region: zero.clone() });
-    calls.push(Call::DurableEnd { region: zero.clone(), bound: MARK_ZERO as u64 + 16 });
-    calls.push(Call::Walk { region: zero, bound: n, offset: MARK_ZERO as u64 + 1 });
+    calls.push(Call::DurableEnd { header: FIRST, region: zero.clone(), bound: MARK_ZERO as u64 + 16 });
+    calls.push(Call::Walk { header: FIRST, region: zero, bound: n, offset: MARK_ZERO as u64 + 1 });
     Box::new(calls.into_iter())
 }
 
@@ -411,9 +468,145 @@ fn wrong_marks() -> Calls {
         [0usize, 16, 32].map(|p| {
             let mut bytes = vec![0; p];
             bytes.extend(entry(p, 0, 1, false, b"k", &[]));
-            let word = (mark(p) ^ 1 << bit) | 1 << 24;
+            let word = (FIRST.mark(p as u64) ^ 1 << bit) | 1 << 24;
             bytes[p..p + 4].copy_from_slice(&word.to_le_bytes());
-            Call::Walk { bound: bytes.len() as u64, region: region(bytes), offset: 0 }
+            Call::Walk { header: FIRST, bound: bytes.len() as u64, region: region(bytes), offset: 0 }
+        })
+    }))
+}
+
+// ---- versions
+
+/// Each call that takes a version, with right versions and wrong ones: alone, and beside one other thing that is wrong
+/// or all of them. 2 comes before all others, but in the header writer after 1.
+fn version_limits() -> Calls {
+    let headers = [1, 2]
+        .into_iter()
+        .chain(NO_VERSIONS)
+        .flat_map(|version| [3, u64::MAX].map(|ordinal| Header { version, ordinal }));
+    Box::new(headers.flat_map(|header| {
+        let mut written = draw::entry(header, 0, 0, 1, false, b"k", b"v");
+        written.resize(32, 0);
+        let regions =
+            [region(vec![]), region(written), Region::Sparse { length: MAX_REGION + 1, at: 0, bytes: vec![] }];
+        let writes = [0, 4095, 4096, 4100].map(|length| Call::WriteHeader { lent: vec![9; length], header });
+        regions.into_iter().flat_map(move |lent| wrong_in_turn(header, &lent)).chain(writes)
+    }))
+}
+
+fn wrong_in_turn(header: Header, lent: &Region) -> Vec<Call> {
+    let (lent, n) = (|| lent.clone(), lent.len() as u64);
+    let mut calls = Vec::new();
+    for place in [0, 8, 16, u64::MAX] {
+        calls.extend([0, 12, 512].map(|hint| Call::ReadAt { region: lent(), header, place, hint }));
+    }
+    for bound in [0, n, n + 1, u64::MAX] {
+        calls.extend([0, 1, u64::MAX].map(|offset| Call::Walk { region: lent(), header, bound, offset }));
+        calls.push(Call::Listing { region: lent(), header, bound });
+        calls.push(Call::DurableEnd { region: lent(), header, bound });
+    }
+    let appends = [
+        (0, 0, 1, 0, 0),
+        (8, 0, 1, 0, 0),
+        (0, 2, 1, 0, 0),
+        (0, 0, 64, 0, 0),
+        (0, 0, 1, 4097, 0),
+        (0, 0, 1, 0, 32_769),
+        (16, 1, 1, 0, 0),
+        (8, 2, 64, 4097, 32_769),
+    ];
+    for (used, kind, ns, klen, vlen) in appends {
+        let (key, value) = (vec![1; klen], vec![2; vlen]);
+        calls.push(Call::AppendTombstone { region: lent(), header, used, ns, key: key.clone() });
+        calls.push(Call::AppendData { region: lent(), header, used, kind, ns, key, value });
+    }
+    calls
+}
+
+/// Headers of either version with every other byte in every place of the version's field, and boots of a few versions.
+fn header_versions() -> Calls {
+    let changed = [1, 2].into_iter().flat_map(|version| {
+        (0..4 * 256usize).map(move |change| {
+            let mut bytes = head(Header { version, ordinal: u64::MAX - 1 });
+            bytes[8 + change / 256] = change as u8;
+            Call::ReadHeader { bytes }
+        })
+    });
+    let boots = [0, 1, 2, 3, 0x101, 0x102, 0x201, 1 << 24, 2 << 24, u32::MAX.into()].map(|version| {
+        let header = Header { version, ordinal: 9 };
+        Call::Boot { file: [head(header), draw::entry(header, 0, 1, 1, false, b"k", b"v")].concat() }
+    });
+    Box::new(changed.chain(boots))
+}
+
+/// Whatever reads a region, on its first lines and on all of it.
+fn looks(header: Header, bytes: &[u8]) -> Vec<Call> {
+    let (lent, bound) = (|| region(bytes.to_vec()), bytes.len() as u64);
+    vec![
+        Call::ReadAt { region: lent(), header, place: 0, hint: 512 },
+        Call::ReadAt { region: lent(), header, place: 16, hint: 512 },
+        Call::Walk { region: lent(), header, bound, offset: 1 },
+        Call::Listing { region: lent(), header, bound },
+        Call::DurableEnd { region: lent(), header, bound },
+        Call::Boot { file: [&head(header)[..], bytes].concat() },
+    ]
+}
+
+/// Lines of 0xff and of zeros, under the ordinals at which the first mark is 0xFFFFFF or 0 and their neighbours.
+fn filled_lines() -> Calls {
+    let near = FILLING_ORDINAL - 2..=FILLING_ORDINAL + 3;
+    let far = [FILLING_ORDINAL + (1 << 24), FILLING_ORDINAL + (u64::MAX << 24)];
+    Box::new(near.chain(far).flat_map(|ordinal| {
+        [1, 2].into_iter().flat_map(move |version| {
+            [7, 8, 16, 24, 40].into_iter().flat_map(move |length| {
+                [0xff, 0].into_iter().flat_map(move |byte| looks(Header { version, ordinal }, &vec![byte; length]))
+            })
+        })
+    }))
+}
+
+/// Files of which some have the same marks: version 1's, and ordinals that agree modulo 2^24.
+fn files() -> Vec<Header> {
+    let step = 1 << 24;
+    let ordinals = [0, 1, 2, 1 << 16, 1 << 23, step - 1, step, step + 1, FILLING_ORDINAL, 1 << 63, u64::MAX << 24];
+    [FIRST].into_iter().chain(ordinals.map(second)).chain([second(u64::MAX)]).collect()
+}
+
+/// Entries that were written in one file, read in another, at their own places and a line before them; and appends over
+/// them.
+fn recycled_cards() -> Calls {
+    Box::new(files().into_iter().flat_map(|old| {
+        files().into_iter().flat_map(move |new| {
+            let mut bytes = vec![0; 64];
+            put(&mut bytes, 0, &draw::entry(old, 0, 0, 1, false, b"A7", b"9"));
+            put(&mut bytes, 16, &draw::entry(old, 16, 1, 1, false, b"A7", b"10"));
+            put(&mut bytes, 32, &draw::entry(old, 32, 2, 1, true, b"A7", &[]));
+            let mut calls = looks(new, &bytes);
+            calls.extend(looks(new, &bytes[16..]));
+            for used in [0, 16] {
+                let (lent, key) = (region(bytes.clone()), b"A8".to_vec());
+                calls.push(Call::AppendTombstone { region: lent.clone(), header: new, used, ns: 2, key: key.clone() });
+                calls.push(Call::AppendData { region: lent, header: new, used, kind: 1, ns: 2, key, value: vec![3] });
+            }
+            calls
+        })
+    }))
+}
+
+/// The last line of the largest region, and the line whose mark is 0, wherever the ordinal puts it.
+fn large_files() -> Calls {
+    Box::new(files().into_iter().flat_map(|header| {
+        [mark_zero(header), MAX_REGION - 16].into_iter().flat_map(move |p| {
+            let written = draw::entry(header, p, 0, 1, false, b"k", b"v");
+            [vec![0; 16], written].into_iter().flat_map(move |bytes| {
+                let (lent, place) = (Region::Sparse { length: MAX_REGION, at: p, bytes }, p as u64);
+                let (bound, offset) = ((place + 64).min(MAX_REGION as u64), place.saturating_sub(17));
+                [
+                    Call::Walk { region: lent.clone(), header, bound, offset },
+                    Call::ReadAt { region: lent.clone(), header, place, hint: 512 },
+                    Call::AppendTombstone { region: lent, header, used: place, ns: 0, key: b"key".to_vec() },
+                ]
+            })
         })
     }))
 }
@@ -441,6 +634,11 @@ pub fn calls() -> impl Iterator<Item = Call> {
         sums(),
         completions(),
         descents(),
+        version_limits(),
+        header_versions(),
+        filled_lines(),
+        recycled_cards(),
+        large_files(),
     ];
     groups.into_iter().flatten()
 }

@@ -12,7 +12,8 @@ use std::{
 use original::{Buffer, Failure, File, Found, Tracker};
 
 use crate::{
-    calls::{eight, up16, Call, Region, Said, State, Step, HEADER, MAX_REGION},
+    calls::{eight, up16, Call, Header, Region, Said, State, Step, HEADER, MAX_REGION},
+    draw::put,
     library::{listing, window},
     paper::{ascends, fits},
 };
@@ -44,8 +45,14 @@ const UPDATE_READ: &str = "read: an update (told as an insert)";
 /// Document 02's request 6: a completion that both sides accept, with the delta at different places.
 const JOINS_BACK: &str = "complete: a larger number waits (joins the back)";
 
-/// Partings in which both sides accept, so that the answer is one to be kept to.
-pub const ACCEPTED: [&str; 2] = [UPDATE_READ, JOINS_BACK];
+/// Document 02's request 10: the original knows version 1 alone.
+const VERSION_2_READ: &str = "header reader: version 2 (refused)";
+const VERSION_2_WRITTEN: &str = "header writer: version 2 (version 1 is written)";
+const VERSION_2_BOOTED: &str = "boot: version 2 (refused)";
+const NEITHER_VERSION: &str = "version: neither 1 nor 2 (no counterpart)";
+
+/// Partings that are recorded too: those in which both sides accept or request 10's versions decide.
+pub const RECORDED: [&str; 5] = [UPDATE_READ, JOINS_BACK, VERSION_2_READ, VERSION_2_WRITTEN, NEITHER_VERSION];
 
 /// How much the original's walk reads at once.
 const READ_BUFFER: u64 = 128 * 1024;
@@ -175,6 +182,57 @@ fn goes_on<T: std::fmt::Debug>(answer: &Result<T, Failure>) -> Result<(), String
 
 const OVERFLOW: &str = "attempt to add with overflow";
 
+// ---- versions
+
+/// The version and the ordinal that stand in a header, whatever else does.
+fn stated(head: &[u8]) -> Option<Header> {
+    let version = u32::from_le_bytes(head.get(8..12)?.try_into().ok()?);
+    let ordinal = u64::from_le_bytes(head.get(16..24)?.try_into().ok()?);
+    Some(Header { version: version.into(), ordinal })
+}
+
+fn put_version(head: &mut [u8], version: u32) {
+    head[8..12].copy_from_slice(&version.to_le_bytes());
+}
+
+/// The original knows version 1 alone, so what it accepts is of version 1, and it has to refuse a file of version 2. It
+/// is asked again with version 1 in that file's header: what it says then is right but for the version.
+fn in_either_version(file: &[u8], parting: &'static str, ask: impl Fn(&[u8]) -> Result<Said, String>) -> Judgement {
+    let said = ask(file)?;
+    if said.number != 2 || stated(file).is_none_or(|header| header.version != 2) {
+        return same(said);
+    }
+    let mut as_1 = file.to_vec();
+    put_version(&mut as_1, 1);
+    let mut right = ask(&as_1)?;
+    if right.number == 2 {
+        return same(said);
+    }
+    note(&format!("refused with {}", said.number));
+    if let Some(version) = right.values.first_mut() {
+        *version = 2;
+    }
+    parted(right, parting)
+}
+
+/// What an append may write to, with some bytes around it, as it is lent.
+fn lent_to(call: &Call) -> Vec<u8> {
+    let (region, used, length) = match call {
+        Call::AppendData { region, used, key, value, .. } => (region, *used, 10 + key.len() + value.len()),
+        Call::AppendTombstone { region, used, key, .. } => (region, *used, 8 + key.len()),
+        _ => return vec![],
+    };
+    let window = window(region, used, up16(length as u64));
+    match region {
+        Region::Dense(bytes) => bytes.clone(),
+        Region::Sparse { at, bytes, .. } => {
+            let mut lent = vec![0; window.len()];
+            put(&mut lent, at - window.start, bytes);
+            lent
+        }
+    }
+}
+
 impl Judge {
     pub fn new() -> Self {
         let folder = room();
@@ -194,21 +252,29 @@ impl Judge {
     }
 
     pub fn judge(&mut self, call: &Call) -> Judgement {
+        if let Some(header) = call.header() {
+            if !header.known() {
+                return parted(Said { number: 2, bytes: lent_to(call), ..Default::default() }, NEITHER_VERSION);
+            }
+            original::under(header.version, header.ordinal);
+        }
         match call {
             Call::Hash { bytes } => same(Said::values(&[crc16_ibm3740_fast::hash(bytes)])),
             Call::Update { state, bytes } => same(Said::values(&[crc16_ibm3740_fast::update(*state, bytes).into()])),
             Call::ReadHeader { bytes } => self.read_header(bytes),
-            Call::WriteHeader { lent, ordinal } => self.write_header(lent, *ordinal),
-            Call::ReadAt { region, place, hint } => self.read_at(region, *place, *hint),
-            Call::AppendData { region, used, kind, ns, key, value } => {
-                self.append(region, *used, *kind, *ns, key, Some(value))
+            Call::WriteHeader { lent, header } => self.write_header(lent, *header),
+            Call::ReadAt { region, place, hint, .. } => self.read_at(region, *place, *hint),
+            Call::AppendData { region, header, used, kind, ns, key, value } => {
+                self.append(region, header.mark(*used), *used, *kind, *ns, key, Some(value))
             }
-            Call::AppendTombstone { region, used, ns, key } => self.append(region, *used, 2, *ns, key, None),
-            Call::Walk { region, bound, offset } => self.walk(region, *bound, *offset),
-            Call::Listing { region, bound } => self.listing(region, *bound),
+            Call::AppendTombstone { region, header, used, ns, key } => {
+                self.append(region, header.mark(*used), *used, 2, *ns, key, None)
+            }
+            Call::Walk { region, bound, offset, .. } => self.walk(region, *bound, *offset),
+            Call::Listing { region, bound, .. } => self.listing(region, *bound),
             Call::Part { region, at, len } => part(region, *at, *len),
             Call::UsedBound { region } => self.used_bound(region),
-            Call::DurableEnd { region, bound } => self.durable_end(region, *bound),
+            Call::DurableEnd { region, bound, .. } => self.durable_end(region, *bound),
             Call::Boot { file } => self.boot(file),
             Call::Track { state, step } => self.track(state, step),
             Call::ReplayData { klen, vlen, maximum } => self.replay(*klen, Some(*vlen), *maximum),
@@ -225,34 +291,52 @@ impl Judge {
     }
 
     fn read_header(&self, bytes: &[u8]) -> Judgement {
-        self.put_head(bytes);
-        match original::read_header(&self.head) {
-            Ok(ordinal) => same(Said::values(&[ordinal])),
-            Err(failure) => same(Said::refused(number_of(&failure)?)),
-        }
+        in_either_version(bytes, VERSION_2_READ, |bytes| {
+            self.put_head(bytes);
+            match original::read_header(&self.head) {
+                Ok(ordinal) => Ok(Said::values(&[1, ordinal])),
+                Err(failure) => Ok(Said::refused(number_of(&failure)?)),
+            }
+        })
     }
 
-    fn write_header(&self, lent: &[u8], ordinal: u64) -> Judgement {
+    fn write_header(&self, lent: &[u8], header: Header) -> Judgement {
+        let refused = |number| Said { number, bytes: lent.to_vec(), ..Default::default() };
         if lent.len() < HEADER {
-            let said = Said { number: 1, bytes: lent.to_vec(), ..Default::default() };
-            return parted(said, "header writer: under 4,096 bytes lent (the original makes its own file)");
+            return parted(refused(1), "header writer: under 4,096 bytes lent (the original makes its own file)");
+        }
+        if !header.known() {
+            return parted(refused(2), NEITHER_VERSION);
         }
         let capacity = (lent.len() - HEADER) as u32;
-        original::create(&self.folder, ordinal, capacity).map_err(|failure| format!("create: {failure:?}"))?;
+        original::create(&self.folder, header.ordinal, capacity).map_err(|failure| format!("create: {failure:?}"))?;
         let mut bytes = fs::read(self.folder.join("data_0000")).expect("the file that was created");
         if bytes.len() != lent.len() || bytes[HEADER..].iter().any(|&byte| byte != 0) {
             return Err("create: the file has another length, or more than the header was written".to_string());
         }
         bytes[HEADER..].copy_from_slice(&lent[HEADER..]);
-        same(Said { bytes, ..Default::default() })
+        if header.version == 1 {
+            return same(Said { bytes, ..Default::default() });
+        }
+        if stated(&bytes).is_none_or(|written| written.version != 1) {
+            return Err("create: another version than 1 was written".to_string());
+        }
+        note(&"version 1 is written");
+        put_version(&mut bytes, 2);
+        parted(Said { bytes, ..Default::default() }, VERSION_2_WRITTEN)
     }
 
     fn boot(&self, file: &[u8]) -> Judgement {
-        fs::write(self.folder.join("data_0000"), file).expect("the file's bytes");
-        match original::open(&self.folder, 1 << 20) {
-            Ok(opened) => same(Said::values(&[opened.ordinal, opened.bound, opened.used])),
-            Err(failure) => same(Said::refused(number_of(&failure)?)),
+        if let Some(header) = stated(file) {
+            original::under(header.version, header.ordinal);
         }
+        in_either_version(file, VERSION_2_BOOTED, |file| {
+            fs::write(self.folder.join("data_0000"), file).expect("the file's bytes");
+            match original::open(&self.folder, 1 << 20) {
+                Ok(opened) => Ok(Said::values(&[1, opened.ordinal, opened.bound, opened.used])),
+                Err(failure) => Ok(Said::refused(number_of(&failure)?)),
+            }
+        })
     }
 
     // ---- region
@@ -319,6 +403,7 @@ impl Judge {
     fn append(
         &mut self,
         region: &Region,
+        mark: u32,
         used: u64,
         kind: u64,
         ns: u64,
@@ -343,7 +428,7 @@ impl Judge {
         if let Some((number, name)) = parting {
             if !overflows {
                 note(&answer);
-                let run = written(used, kind.min(3) as u32, ns.min(255) as u32, key, value);
+                let run = written(mark, kind.min(3) as u32, ns.min(255) as u32, key, value);
                 writes_all_the_same(&answer, total, used, &run, &before, after.as_deref(), start)?;
             }
             return parted(refused(number), name);
@@ -480,8 +565,7 @@ impl Judge {
 }
 
 /// An entry as the original writes it whatever it is given: lengths wrap, and a namespace over 63 runs into the type's bits.
-fn written(used: u64, kind: u32, ns: u32, key: &[u8], value: Option<&[u8]>) -> Vec<u8> {
-    let mark = ((used / 16 + 0x5a_17c0) % (1 << 24)) as u32;
+fn written(mark: u32, kind: u32, ns: u32, key: &[u8], value: Option<&[u8]>) -> Vec<u8> {
     let mut run = (mark | kind << 30 | ns << 24).to_le_bytes().to_vec();
     run.extend((key.len() as u16).to_le_bytes());
     if let Some(value) = value {

@@ -2,7 +2,7 @@
 //! bytes alone, which is looked at here: an answer that doesn't keep to it gets a number that no table has.
 use locker_log::sys::{self, RawEntry};
 
-use crate::calls::{Call, Region, Said, HEADER, MAX_REGION};
+use crate::calls::{Call, Header, Region, Said, HEADER, MAX_REGION};
 
 mod tracker;
 
@@ -67,11 +67,20 @@ fn reading(region: &[u8], call: impl FnOnce(&[u8]) -> Said) -> Said {
     }
 }
 
-fn read_at(region: &[u8], place: u64, hint: u64) -> Said {
+fn read_at(region: &[u8], header: Header, place: u64, hint: u64) -> Said {
     let mut entry = UNTOUCHED_ENTRY;
     // SAFETY: as above.
-    let number =
-        unsafe { sys::locker_read_at(region.as_ptr(), region.len(), place as usize, hint as usize, &mut entry) };
+    let number = unsafe {
+        sys::locker_read_at(
+            region.as_ptr(),
+            region.len(),
+            header.version,
+            header.ordinal,
+            place as usize,
+            hint as usize,
+            &mut entry,
+        )
+    };
     if number != 0 {
         return Said::refused(if entry == UNTOUCHED_ENTRY { number } else { WROTE });
     }
@@ -79,7 +88,7 @@ fn read_at(region: &[u8], place: u64, hint: u64) -> Said {
     Said { values: numbers.to_vec(), bytes, ..Default::default() }
 }
 
-fn walk(region: &[u8], bound: u64, offset: u64) -> Said {
+fn walk(region: &[u8], header: Header, bound: u64, offset: u64) -> Said {
     let mut entry = UNTOUCHED_ENTRY;
     let (mut found, mut place) = (UNTOUCHED, UNTOUCHED);
     // SAFETY: as above.
@@ -87,6 +96,8 @@ fn walk(region: &[u8], bound: u64, offset: u64) -> Said {
         sys::locker_walk(
             region.as_ptr(),
             region.len(),
+            header.version,
+            header.ordinal,
             bound as usize,
             offset as usize,
             &mut entry,
@@ -135,10 +146,21 @@ fn used_bound(region: &[u8]) -> Said {
     }
 }
 
-fn durable_end(region: &[u8], bound: u64) -> Said {
+fn durable_end(region: &[u8], header: Header, bound: u64) -> Said {
     let (mut end, mut place) = (UNTOUCHED, UNTOUCHED);
     // SAFETY: as above.
-    match unsafe { sys::locker_durable_end(region.as_ptr(), region.len(), bound as usize, &mut end, &mut place) } {
+    let number = unsafe {
+        sys::locker_durable_end(
+            region.as_ptr(),
+            region.len(),
+            header.version,
+            header.ordinal,
+            bound as usize,
+            &mut end,
+            &mut place,
+        )
+    };
+    match number {
         0 if place == UNTOUCHED => Said::values(&[end]),
         10 if end == UNTOUCHED => Said { number: 10, values: vec![place], ..Default::default() },
         number if number != 0 && end == UNTOUCHED && place == UNTOUCHED => Said::refused(number),
@@ -147,11 +169,11 @@ fn durable_end(region: &[u8], bound: u64) -> Said {
 }
 
 fn read_header(bytes: &[u8]) -> Said {
-    let mut ordinal = UNTOUCHED;
+    let (mut version, mut ordinal) = (UNTOUCHED, UNTOUCHED);
     // SAFETY: as above.
-    match unsafe { sys::locker_read_header(bytes.as_ptr(), bytes.len(), &mut ordinal) } {
-        0 => Said::values(&[ordinal]),
-        number if ordinal == UNTOUCHED => Said::refused(number),
+    match unsafe { sys::locker_read_header(bytes.as_ptr(), bytes.len(), &mut version, &mut ordinal) } {
+        0 => Said::values(&[version, ordinal]),
+        number if version == UNTOUCHED && ordinal == UNTOUCHED => Said::refused(number),
         _ => Said::refused(WROTE),
     }
 }
@@ -178,11 +200,12 @@ fn boot(file: &[u8]) -> Said {
     if bound.number != 0 {
         return bound;
     }
-    let end = durable_end(region, bound.values[0]);
+    let header = Header { version: head.values[0], ordinal: head.values[1] };
+    let end = durable_end(region, header, bound.values[0]);
     if end.number != 0 {
         return Said::refused(end.number);
     }
-    Said::values(&[head.values[0], bound.values[0], end.values[0]])
+    Said::values(&[header.version, header.ordinal, bound.values[0], end.values[0]])
 }
 
 impl Library {
@@ -239,18 +262,24 @@ impl Side for Library {
                 Said::values(&[unsafe { sys::locker_update(*state, bytes.as_ptr(), bytes.len()) }.into()])
             }
             Call::ReadHeader { bytes } => reading(bytes, read_header),
-            Call::WriteHeader { lent, ordinal } => {
+            Call::WriteHeader { lent, header } => {
                 let mut bytes = lent.clone();
-                let number = unsafe { sys::locker_write_header(bytes.as_mut_ptr(), bytes.len(), *ordinal) };
+                let number = unsafe {
+                    sys::locker_write_header(bytes.as_mut_ptr(), bytes.len(), header.version, header.ordinal)
+                };
                 Said { number, bytes, ..Default::default() }
             }
-            Call::ReadAt { region, place, hint } => self.look(region, |lent| read_at(lent, *place, *hint)),
-            Call::AppendData { region, used, kind, ns, key, value } => {
+            Call::ReadAt { region, header, place, hint } => {
+                self.look(region, |lent| read_at(lent, *header, *place, *hint))
+            }
+            Call::AppendData { region, header, used, kind, ns, key, value } => {
                 let length = up(10 + key.len() + value.len());
                 self.append(region, *used, length, |lent, next| unsafe {
                     sys::locker_append_data(
                         lent.as_mut_ptr(),
                         lent.len(),
+                        header.version,
+                        header.ordinal,
                         *used as usize,
                         *kind,
                         *ns,
@@ -262,11 +291,13 @@ impl Side for Library {
                     )
                 })
             }
-            Call::AppendTombstone { region, used, ns, key } => {
+            Call::AppendTombstone { region, header, used, ns, key } => {
                 self.append(region, *used, up(8 + key.len()), |lent, next| unsafe {
                     sys::locker_append_tombstone(
                         lent.as_mut_ptr(),
                         lent.len(),
+                        header.version,
+                        header.ordinal,
                         *used as usize,
                         *ns,
                         key.as_ptr(),
@@ -275,15 +306,19 @@ impl Side for Library {
                     )
                 })
             }
-            Call::Walk { region, bound, offset } => self.look(region, |lent| walk(lent, *bound, *offset)),
-            Call::Listing { region, bound } => self.look(region, |lent| listing(|offset| walk(lent, *bound, offset))),
+            Call::Walk { region, header, bound, offset } => {
+                self.look(region, |lent| walk(lent, *header, *bound, *offset))
+            }
+            Call::Listing { region, header, bound } => {
+                self.look(region, |lent| listing(|offset| walk(lent, *header, *bound, offset)))
+            }
             Call::Part { region, at, len } => self.look(region, |lent| {
                 let part = part_of(lent, *at, *len);
                 let start = (part.as_ptr() as usize - lent.as_ptr() as usize) as u64;
                 Said { values: vec![start, part.len() as u64], bytes: part.to_vec(), ..Default::default() }
             }),
             Call::UsedBound { region } => self.look(region, used_bound),
-            Call::DurableEnd { region, bound } => self.look(region, |lent| durable_end(lent, *bound)),
+            Call::DurableEnd { region, header, bound } => self.look(region, |lent| durable_end(lent, *header, *bound)),
             Call::Boot { file } => boot(file),
             Call::Track { state, step } => tracker::track(state, step),
             Call::ReplayData { klen, vlen, maximum } => {

@@ -1,9 +1,9 @@
-//! Document 01 written out as a plain program, with document 02's requests 4 to 6: a third opinion, and the place
+//! Document 01 written out as a plain program, with document 02's requests 4 to 6 and 10: a third opinion, and the place
 //! where `oracle/awake` plants its slips. With no slip it has to agree with the original as the library does.
 use std::collections::BTreeSet;
 
 use crate::{
-    calls::{eight, up16, Call, Region, Said, Slot, State, Step, HEADER, MAX_REGION},
+    calls::{eight, up16, Call, Header, Region, Said, Slot, State, Step, HEADER, MAX_REGION},
     library::{listing, window, Side},
 };
 
@@ -12,6 +12,12 @@ pub const SLIPS: &[(&str, &str)] = &[
     ("sum-start-zero", "the checksum starts at 0 instead of 0xffff"),
     ("header-version-low-byte", "only the version's lowest byte is compared"),
     ("header-signature-unread", "the signature isn't compared"),
+    ("header-2-refused", "header reader: version 2 is refused, as by the original"),
+    ("header-3-read", "header reader: version 3 is taken"),
+    ("header-reads-1", "header reader: version 1 is answered, whatever the version"),
+    ("header-writes-1", "header writer: version 1 is written, whatever the version, as by the original"),
+    ("header-writes-any", "header writer: any version is taken"),
+    ("header-version-first", "header writer: 2 is given before 1"),
     ("header-ordinal-half", "the ordinal's upper half is lost"),
     ("header-rest-unwritten", "the header's last 4,072 bytes aren't zeroed"),
     ("header-writes-on", "the header writer zeroes one byte too many"),
@@ -33,6 +39,22 @@ pub const SLIPS: &[(&str, &str)] = &[
     ("append-unrounded", "append: the new used count isn't rounded up"),
     ("append-key-limit", "append: a key of 4,096 bytes gets 11"),
     ("mark-unreduced", "the mark isn't taken modulo 2^24"),
+    ("mark-ordinal-ignored", "version 2: the ordinal isn't part of the mark"),
+    ("mark-ordinal-in-1", "version 1: the ordinal is part of the mark"),
+    ("mark-ordinal-16-bits", "version 2: the ordinal is taken modulo 2^16"),
+    ("mark-ordinal-23-bits", "version 2: the ordinal is taken modulo 2^23"),
+    ("mark-sum-unreduced", "version 2: the sum with the ordinal isn't taken modulo 2^24"),
+    ("version-unread", "a call takes any version, as version 1"),
+    ("version-3-taken", "a call takes version 3, as version 2"),
+    ("version-low-byte", "a call looks at its version's lowest byte alone"),
+    ("version-low-half", "a call looks at its version's lower half alone"),
+    ("version-after-region", "a call gives 2 after 3"),
+    ("version-after-place", "a call gives 2 after 3 and after 4 or 5"),
+    ("read-under-1", "read: the marks of version 1, whatever the version"),
+    ("append-under-1", "append: the marks of version 1, whatever the version"),
+    ("walk-under-1", "walk: the marks of version 1, whatever the version"),
+    ("boot-under-1", "boot: the marks of version 1, whatever the header says"),
+    ("boot-ordinal-lost", "boot: the marks of ordinal 0, whatever the header says"),
     ("walk-stops", "walk: stops at the first bad checksum"),
     ("walk-jumps", "walk: leaves a bad entry by its length instead of by a line"),
     ("walk-end-rounded", "walk: the entry's end is rounded up"),
@@ -118,9 +140,54 @@ impl Paper {
         crc16_ibm3740_fast::update(if self.slips("sum-start-zero") { 0 } else { 0xffff }, bytes)
     }
 
-    fn mark(&self, p: u64) -> u32 {
-        let mark = p / 16 + 0x5a_17c0;
-        (if self.slips("mark-unreduced") { mark } else { mark % (1 << 24) }) as u32
+    // ---- versions and marks
+
+    /// The version that the program sees in the number that it is given.
+    fn seen(&self, version: u64) -> u64 {
+        match self.slip {
+            "version-unread" if version != 2 => 1,
+            "version-3-taken" if version == 3 => 2,
+            "version-low-byte" => version & 0xff,
+            "version-low-half" => version & 0xffff_ffff,
+            _ => version,
+        }
+    }
+
+    fn mark(&self, header: Header, p: u64) -> u32 {
+        let by_ordinal = match self.slip {
+            "mark-ordinal-ignored" => false,
+            "mark-ordinal-in-1" => true,
+            _ => self.seen(header.version) == 2,
+        };
+        let bits = match self.slip {
+            "mark-ordinal-16-bits" => 16,
+            "mark-ordinal-23-bits" => 23,
+            _ => 24,
+        };
+        let ordinal = if by_ordinal { header.ordinal % (1 << bits) } else { 0 };
+        let place = p / 16 + 0x5a_17c0;
+        (match self.slip {
+            "mark-unreduced" => place + ordinal,
+            "mark-sum-unreduced" => place % (1 << 24) + ordinal,
+            _ => (place + ordinal) % (1 << 24),
+        }) as u32
+    }
+
+    /// The header under whose marks a call works; the slip makes it one of version 1.
+    fn under(&self, header: Header, slip: &str) -> Header {
+        Header { version: if self.slips(slip) { 1 } else { header.version }, ..header }
+    }
+
+    /// The refusals that every call with marks begins with: 2, 3, and then 4 or 5, whichever it has, as `misplaced`.
+    fn refusal(&self, header: Header, length: usize, misplaced: Option<u32>) -> u32 {
+        let large = (length > MAX_REGION).then_some(3);
+        let wrong = (!matches!(self.seen(header.version), 1 | 2)).then_some(2);
+        match self.slip {
+            "version-after-region" => large.or(wrong).or(misplaced),
+            "version-after-place" => large.or(misplaced).or(wrong),
+            _ => wrong.or(large).or(misplaced),
+        }
+        .unwrap_or(0)
     }
 
     // ---- header
@@ -130,24 +197,36 @@ impl Paper {
             return Said::refused(1);
         }
         let version = u32_at(bytes, 8) & if self.slips("header-version-low-byte") { 0xff } else { u32::MAX };
-        if (bytes[..8] != *b"LOCKDAT1" && !self.slips("header-signature-unread")) || version != 1 {
+        let last = match self.slip {
+            "header-2-refused" => 1,
+            "header-3-read" => 3,
+            _ => 2,
+        };
+        let signed = bytes[..8] == *b"LOCKDAT1" || self.slips("header-signature-unread");
+        if !signed || !(1..=last).contains(&version) {
             return Said::refused(2);
         }
         let ordinal = u64::from_le_bytes(bytes[16..24].try_into().unwrap());
-        Said::values(&[if self.slips("header-ordinal-half") { ordinal & 0xffff_ffff } else { ordinal }])
+        let told = if self.slips("header-reads-1") { 1 } else { version };
+        Said::values(&[told.into(), if self.slips("header-ordinal-half") { ordinal & 0xffff_ffff } else { ordinal }])
     }
 
-    fn write_header(&self, lent: &[u8], ordinal: u64) -> Said {
+    fn write_header(&self, lent: &[u8], header: Header) -> Said {
         let mut bytes = lent.to_vec();
-        if bytes.len() < HEADER {
-            return Said { number: 1, bytes, ..Default::default() };
+        let short = (bytes.len() < HEADER).then_some(1);
+        let wrong = (!matches!(header.version, 1 | 2) && !self.slips("header-writes-any")).then_some(2);
+        let refused = if self.slips("header-version-first") { wrong.or(short) } else { short.or(wrong) };
+        if let Some(number) = refused {
+            return Said { number, bytes, ..Default::default() };
         }
         if !self.slips("header-rest-unwritten") {
             bytes[..HEADER].fill(0);
         }
         bytes[..8].copy_from_slice(b"LOCKDAT1");
-        bytes[8..16].copy_from_slice(&1u64.to_le_bytes());
-        bytes[16..24].copy_from_slice(&ordinal.to_le_bytes());
+        let version = if self.slips("header-writes-1") { 1 } else { header.version as u32 };
+        bytes[8..12].copy_from_slice(&version.to_le_bytes());
+        bytes[12..16].fill(0);
+        bytes[16..24].copy_from_slice(&header.ordinal.to_le_bytes());
         if self.slips("header-writes-on") && bytes.len() > HEADER {
             bytes[HEADER] = 0;
         }
@@ -156,13 +235,11 @@ impl Paper {
 
     // ---- entries
 
-    fn read_at(&self, region: &[u8], place: u64, hint: u64) -> Said {
-        if region.len() > MAX_REGION {
-            return Said::refused(3);
-        }
-        let late = self.slips("read-line-late");
-        if place % 16 != 0 && !late {
-            return Said::refused(5);
+    fn read_at(&self, region: &[u8], header: Header, place: u64, hint: u64) -> Said {
+        let off_line = place % 16 != 0 && !self.slips("read-line-late");
+        let number = self.refusal(header, region.len(), off_line.then_some(5));
+        if number != 0 {
+            return Said::refused(number);
         }
         let rest = region.get(place.min(region.len() as u64) as usize..).unwrap_or(&[]);
         let hint = match () {
@@ -177,10 +254,10 @@ impl Paper {
         if place % 16 != 0 {
             return Said::refused(5);
         }
-        self.parse(seen, place)
+        self.parse(seen, self.mark(self.under(header, "read-under-1"), place), place)
     }
 
-    fn parse(&self, seen: &[u8], place: u64) -> Said {
+    fn parse(&self, seen: &[u8], mark: u32, place: u64) -> Said {
         let word = u32_at(seen, 0);
         let (mut klen, mut vlen) = (u16_at(seen, 4), u16_at(seen, 6));
         let length = 10 + klen + vlen;
@@ -188,7 +265,7 @@ impl Paper {
         if short && self.slips("read-length-first") {
             return Said::refused(6);
         }
-        if word & 0xff_ffff != self.mark(place) {
+        if word & 0xff_ffff != mark {
             return Said::refused(7);
         }
         if short {
@@ -215,6 +292,7 @@ impl Paper {
     /// The refusals of an append in the table's order; a tombstone has no value and its kind is 2.
     fn append_refusal(
         &self,
+        header: Header,
         capacity: usize,
         used: u64,
         kind: u64,
@@ -228,9 +306,9 @@ impl Paper {
         let room = (capacity as u64).saturating_sub(u64::from(self.slips("append-room-off-by-one")));
         let fits = used.checked_add(length).is_some_and(|end| end <= room);
         let wrong_ns = ns > 63;
+        let first = self.refusal(header, capacity, (used % 16 != 0).then_some(5));
         match () {
-            () if capacity > MAX_REGION => 3,
-            () if used % 16 != 0 => 5,
+            () if first != 0 => first,
             () if !tombstone && kind > 1 => 9,
             () if wrong_ns && !self.slips("append-namespace-late") => 17,
             () if self.slips("append-order-swapped") && vlen > 32768 => 12,
@@ -242,9 +320,19 @@ impl Paper {
         }
     }
 
-    fn entry_bytes(&self, at: u64, kind: u64, tombstone: bool, ns: u64, key: &[u8], value: &[u8]) -> Vec<u8> {
+    fn entry_bytes(
+        &self,
+        header: Header,
+        at: u64,
+        kind: u64,
+        tombstone: bool,
+        ns: u64,
+        key: &[u8],
+        value: &[u8],
+    ) -> Vec<u8> {
         let length = up16(if tombstone { 8 + key.len() } else { 10 + key.len() + value.len() } as u64);
-        let mark = self.mark(if self.slips("append-mark-next") { at + length } else { at });
+        let header = self.under(header, "append-under-1");
+        let mark = self.mark(header, if self.slips("append-mark-next") { at + length } else { at });
         let mut bytes = (mark | (ns as u32) << 24 | (kind as u32) << 30).to_le_bytes().to_vec();
         bytes.extend((key.len() as u16).to_le_bytes());
         if !tombstone {
@@ -263,6 +351,7 @@ impl Paper {
     fn append(
         &self,
         region: &mut [u8],
+        header: Header,
         used: u64,
         kind: u64,
         tombstone: bool,
@@ -270,11 +359,11 @@ impl Paper {
         key: &[u8],
         value: &[u8],
     ) -> Said {
-        let number = self.append_refusal(region.len(), used, kind, tombstone, ns, key.len(), value.len());
+        let number = self.append_refusal(header, region.len(), used, kind, tombstone, ns, key.len(), value.len());
         if number != 0 {
             return Said::refused(number);
         }
-        let bytes = self.entry_bytes(used, kind, tombstone, ns, key, value);
+        let bytes = self.entry_bytes(header, used, kind, tombstone, ns, key, value);
         region[used as usize..used as usize + bytes.len()].copy_from_slice(&bytes);
         let end = used + (if tombstone { 8 } else { 10 } + key.len() + value.len()) as u64;
         Said::values(&[if self.slips("append-unrounded") { end } else { up16(end) }])
@@ -282,14 +371,14 @@ impl Paper {
 
     // ---- walk and tail
 
-    fn line(&self, region: &[u8], p: u64, bound: u64) -> Line {
+    fn line(&self, region: &[u8], header: Header, p: u64, bound: u64) -> Line {
         let rest = &region[p as usize..];
         let word = u32_at(rest, 0);
         let kind = u64::from(word >> 30);
         if kind == 3 && self.slips("walk-type-any-mark") {
             return Line::Unknown;
         }
-        if word & 0xff_ffff != self.mark(p) {
+        if word & 0xff_ffff != self.mark(self.under(header, "walk-under-1"), p) {
             return Line::Pass;
         }
         if kind == 3 && !self.slips("walk-type-verified") {
@@ -313,13 +402,11 @@ impl Paper {
         Line::Entry { kind, ns: u64::from(word >> 24 & 63), klen, vlen, length }
     }
 
-    fn walk(&self, region: &[u8], bound: u64, offset: u64) -> Said {
+    fn walk(&self, region: &[u8], header: Header, bound: u64, offset: u64) -> Said {
         let total = region.len() as u64;
-        if region.len() > MAX_REGION {
-            return Said::refused(3);
-        }
-        if bound > total {
-            return Said::refused(4);
+        let number = self.refusal(header, region.len(), (bound > total).then_some(4));
+        if number != 0 {
+            return Said::refused(number);
         }
         if offset >= bound {
             return Said::values(&[0]);
@@ -328,7 +415,7 @@ impl Paper {
         let last = bound + u64::from(self.slips("walk-bound-included"));
         let mut p = up16(offset);
         while p < last && p + least <= total {
-            match self.line(region, p, bound) {
+            match self.line(region, header, p, bound) {
                 Line::Unknown => return Said { number: 10, values: vec![p], ..Default::default() },
                 Line::Entry { kind, ns, klen, vlen, length } => {
                     return self.found(region, [p, kind, ns, klen, vlen, length])
@@ -372,11 +459,11 @@ impl Paper {
         Said::values(&[if self.slips("bound-uncapped") { rounded } else { rounded.min(region.len() as u64) }])
     }
 
-    fn durable_end(&self, region: &[u8], bound: u64) -> Said {
+    fn durable_end(&self, region: &[u8], header: Header, bound: u64) -> Said {
         let mut end = 0;
         let mut offset = 0;
         loop {
-            let said = self.walk(region, bound, offset);
+            let said = self.walk(region, header, bound, offset);
             if said.number != 0 {
                 return said;
             }
@@ -393,10 +480,15 @@ impl Paper {
         if head.number != 0 {
             return head;
         }
+        let header = match self.slip {
+            "boot-under-1" => Header { version: 1, ordinal: head.values[1] },
+            "boot-ordinal-lost" => Header { version: head.values[0], ordinal: 0 },
+            _ => Header { version: head.values[0], ordinal: head.values[1] },
+        };
         let bound = self.used_bound(&file[HEADER..]).values[0];
-        let end = self.durable_end(&file[HEADER..], bound.min((file.len() - HEADER) as u64));
+        let end = self.durable_end(&file[HEADER..], header, bound.min((file.len() - HEADER) as u64));
         match end.number {
-            0 => Said::values(&[head.values[0], bound, end.values[0]]),
+            0 => Said::values(&[head.values[0], head.values[1], bound, end.values[0]]),
             number => Said::refused(number),
         }
     }
@@ -477,6 +569,7 @@ impl Paper {
     fn put(
         &mut self,
         region: &Region,
+        header: Header,
         used: u64,
         kind: u64,
         tombstone: bool,
@@ -487,7 +580,7 @@ impl Paper {
         let length = up16(if tombstone { 8 + key.len() } else { 10 + key.len() + value.len() } as u64);
         let window = window(region, used, length);
         self.lend(region, window.clone(), |paper, lent| {
-            let said = paper.append(lent, used, kind, tombstone, ns, key, value);
+            let said = paper.append(lent, header, used, kind, tombstone, ns, key, value);
             Said { bytes: lent[window].to_vec(), ..said }
         })
     }
@@ -499,15 +592,21 @@ impl Side for Paper {
             Call::Hash { bytes } => Said::values(&[self.hash(bytes).into()]),
             Call::Update { state, bytes } => Said::values(&[crc16_ibm3740_fast::update(*state, bytes).into()]),
             Call::ReadHeader { bytes } => self.read_header(bytes),
-            Call::WriteHeader { lent, ordinal } => self.write_header(lent, *ordinal),
-            Call::ReadAt { region, place, hint } => self.look(region, |paper, lent| paper.read_at(lent, *place, *hint)),
-            Call::AppendData { region, used, kind, ns, key, value } => {
-                self.put(region, *used, *kind, false, *ns, key, value)
+            Call::WriteHeader { lent, header } => self.write_header(lent, *header),
+            Call::ReadAt { region, header, place, hint } => {
+                self.look(region, |paper, lent| paper.read_at(lent, *header, *place, *hint))
             }
-            Call::AppendTombstone { region, used, ns, key } => self.put(region, *used, 2, true, *ns, key, &[]),
-            Call::Walk { region, bound, offset } => self.look(region, |paper, lent| paper.walk(lent, *bound, *offset)),
-            Call::Listing { region, bound } => {
-                self.look(region, |paper, lent| listing(|offset| paper.walk(lent, *bound, offset)))
+            Call::AppendData { region, header, used, kind, ns, key, value } => {
+                self.put(region, *header, *used, *kind, false, *ns, key, value)
+            }
+            Call::AppendTombstone { region, header, used, ns, key } => {
+                self.put(region, *header, *used, 2, true, *ns, key, &[])
+            }
+            Call::Walk { region, header, bound, offset } => {
+                self.look(region, |paper, lent| paper.walk(lent, *header, *bound, *offset))
+            }
+            Call::Listing { region, header, bound } => {
+                self.look(region, |paper, lent| listing(|offset| paper.walk(lent, *header, *bound, offset)))
             }
             Call::Part { region, at, len } => self.look(region, |_, lent| {
                 let end = at.checked_add(*len).filter(|&end| end <= lent.len() as u64);
@@ -521,7 +620,9 @@ impl Side for Paper {
                 }
             }),
             Call::UsedBound { region } => self.look(region, |paper, lent| paper.used_bound(lent)),
-            Call::DurableEnd { region, bound } => self.look(region, |paper, lent| paper.durable_end(lent, *bound)),
+            Call::DurableEnd { region, header, bound } => {
+                self.look(region, |paper, lent| paper.durable_end(lent, *header, *bound))
+            }
             Call::Boot { file } => self.boot(file),
             Call::Track { state, step } => self.track(state, step),
             Call::ReplayData { klen, vlen, maximum } => self.replay(false, *klen, *vlen, *maximum),

@@ -3,17 +3,20 @@
 use std::collections::BTreeMap;
 
 use crate::{
-    calls::{Call, Region},
+    calls::{Call, Header, Region, Said},
     codec::{write_said, write_state, Record, Records},
-    draw::{entry, fresh_state, Draw},
-    fixed,
-    judge::{Judge, ACCEPTED},
+    draw::{entry, fresh_state, Draw, FILLING_ORDINAL, NO_VERSIONS},
+    fixed::{self, second, FIRST},
+    judge::{Judge, RECORDED},
     library::Side,
     table::grouped,
 };
 
-/// Of each answer of each operation: so many small calls, and so many of regions up to 70,000 bytes.
+/// Of each answer of each operation: so many small calls, and so many of regions up to 70,000 bytes. Where a version
+/// decides, so many small ones of each version, and of those with neither.
 const SMALL: usize = 48;
+const SMALL_OF_VERSION: usize = 22;
+const SMALL_OF_NEITHER: usize = 4;
 const SMALL_BYTES: usize = 420;
 const LARGE: usize = 1;
 const LARGE_BYTES: usize = 5_000;
@@ -29,7 +32,22 @@ struct Recorder {
     judge: Judge,
     out: Vec<u8>,
     records: u32,
-    met: BTreeMap<(&'static str, String, bool), usize>,
+    met: BTreeMap<(&'static str, String, &'static str), usize>,
+}
+
+/// What a call with this answer counts as, and how many of these are enough.
+fn kind_of(call: &Call, said: &Said, large: bool) -> (&'static str, usize) {
+    let version = match call {
+        Call::ReadHeader { .. } => said.values.first().copied(),
+        _ => call.header().map(|header| header.version),
+    };
+    match version {
+        None if !large => ("small", SMALL),
+        Some(1) if !large => ("version 1", SMALL_OF_VERSION),
+        Some(2) if !large => ("version 2", SMALL_OF_VERSION),
+        None | Some(1 | 2) => ("large", LARGE),
+        Some(_) => ("neither version", if large { 0 } else { SMALL_OF_NEITHER }),
+    }
 }
 
 /// What a call was lent to write to.
@@ -47,6 +65,8 @@ fn recorded(call: &Call) -> bool {
         Call::Update { .. } | Call::Listing { .. } | Call::Part { .. } | Call::Boot { .. } | Call::Track { .. } => {
             return false
         }
+        // Those that are short enough are made for it.
+        Call::WriteHeader { .. } => return false,
         Call::ReadAt { region, .. }
         | Call::Walk { region, .. }
         | Call::AppendData { region, .. }
@@ -68,18 +88,17 @@ impl Recorder {
 
     fn write(&mut self, call: &Call, sparing: bool) {
         let Ok(judged) = self.judge.judge(call) else { return };
-        if judged.parting.is_some_and(|name| !ACCEPTED.contains(&name)) {
+        if judged.parting.is_some_and(|name| !RECORDED.contains(&name)) {
             return;
         }
         let mut bytes = Vec::new();
         call.parts().write_call(&mut bytes);
         write_said(&judged.said, lent(call), &mut bytes);
-        let large = bytes.len() > SMALL_BYTES;
-        let most = if large { LARGE } else { SMALL };
+        let (kind, most) = kind_of(call, &judged.said, bytes.len() > SMALL_BYTES);
         if sparing && bytes.len() > LARGE_BYTES {
             return;
         }
-        let met = self.met.entry((call.operation(), call.answer_name(&judged.said), large)).or_default();
+        let met = self.met.entry((call.operation(), call.answer_name(&judged.said), kind)).or_default();
         if *met < most || !sparing {
             *met += 1;
             self.out.extend(bytes);
@@ -103,7 +122,7 @@ impl Recorder {
             let Ok(judged) = self.judge.judge(&call) else { continue };
             draw.learn(&judged.said);
             state = judged.said.state.clone().unwrap_or(from);
-            if judged.parting.is_some_and(|name| !ACCEPTED.contains(&name)) {
+            if judged.parting.is_some_and(|name| !RECORDED.contains(&name)) {
                 continue;
             }
             call.parts().write_call(&mut self.out);
@@ -126,28 +145,62 @@ fn extra() -> Vec<Call> {
             let mut lent = vec![0; length];
             lent[length - 1] = 7;
             lent[3] = 9;
-            calls.push(Call::WriteHeader { lent, ordinal });
+            let versions = [1, 2].into_iter().chain((ordinal == 1).then_some(3));
+            calls.extend(
+                versions.map(|version| Call::WriteHeader { lent: lent.clone(), header: Header { version, ordinal } }),
+            );
         }
     }
-    calls.push(Call::WriteHeader { lent: vec![0xee; 4100], ordinal: 5 });
+    calls.push(Call::WriteHeader { lent: vec![0xee; 4100], header: Header { version: 1, ordinal: 5 } });
     for length in [36_879, 36_880, 36_881] {
         let (region, key, value) = (Region::Dense(vec![0; length]), vec![0; 4096], vec![0; 32_768]);
-        calls.push(Call::AppendData { region, used: 0, kind: 1, ns: 63, key, value });
+        calls.push(Call::AppendData { region, header: FIRST, used: 0, kind: 1, ns: 63, key, value });
     }
     for (klen, vlen) in [(0, 65_535), (65_535, 0), (4097, 32_769), (30_000, 35_000)] {
         for p in [0, 16, 48] {
-            let whole = entry(p, 1, 3, false, &vec![0; klen], &vec![0; vlen]);
+            let whole = entry(FIRST, p, 1, 3, false, &vec![0; klen], &vec![0; vlen]);
             for short in [0, 1] {
                 let mut bytes = vec![0; p];
                 bytes.extend(&whole[..whole.len() - short]);
-                let bound = bytes.len() as u64;
-                let region = Region::Dense(bytes);
-                calls.push(Call::Walk { region: region.clone(), bound, offset: 0 });
-                calls.push(Call::ReadAt { region: region.clone(), place: p as u64, hint: 80_000 });
-                calls.push(Call::DurableEnd { region: region.clone(), bound });
-                calls.push(Call::UsedBound { region });
+                calls.extend(looks_at(FIRST, &bytes, p as u64));
+                calls.push(Call::UsedBound { region: Region::Dense(bytes) });
             }
         }
+    }
+    calls
+}
+
+/// An entry at a place, walked, read and as the durable end.
+fn looks_at(header: Header, bytes: &[u8], place: u64) -> [Call; 3] {
+    let (region, bound) = (Region::Dense(bytes.to_vec()), bytes.len() as u64);
+    [
+        Call::Walk { region: region.clone(), header, bound, offset: 0 },
+        Call::ReadAt { region: region.clone(), header, place, hint: 80_000 },
+        Call::DurableEnd { region, header, bound },
+    ]
+}
+
+/// An entry of a file of version 2 in its own file, in others with its marks, and on recycled cards; a line of filling
+/// whose mark is right; and each call with each version that no file has.
+fn versions() -> Vec<Call> {
+    let mut calls = Vec::new();
+    let old = second(5);
+    for p in [0, 16] {
+        let mut bytes = vec![0; p];
+        bytes.extend(entry(old, p, 1, 3, false, b"A7", b"10"));
+        for new in [old, second(5 + (1 << 24)), second(5 + (u64::MAX << 24)), second(6), second(4), second(0), FIRST] {
+            calls.extend(looks_at(new, &bytes, p as u64));
+        }
+    }
+    for ordinal in [FILLING_ORDINAL - 1, FILLING_ORDINAL, FILLING_ORDINAL + 1] {
+        calls.extend(looks_at(second(ordinal), &[0xff; 24], 0));
+    }
+    for header in NO_VERSIONS.map(|version| Header { version, ordinal: 5 }) {
+        let bytes = entry(header, 0, 0, 1, false, b"k", &[]);
+        let (region, key) = (Region::Dense(vec![0; 16]), b"k".to_vec());
+        calls.extend(looks_at(header, &bytes, 0));
+        calls.push(Call::AppendTombstone { region: region.clone(), header, used: 0, ns: 1, key: key.clone() });
+        calls.push(Call::AppendData { region, header, used: 0, kind: 0, ns: 1, key, value: vec![] });
     }
     calls
 }
@@ -161,7 +214,7 @@ pub fn record(path: &str, seed: u64) -> std::io::Result<()> {
         recorder.take(&call);
     }
     fixed::calls().step_by(7).take(60_000).for_each(|call| recorder.take(&call));
-    extra().iter().for_each(|call| recorder.write(call, false));
+    extra().iter().chain(&versions()).for_each(|call| recorder.write(call, false));
     for i in 0..TRACES as u64 {
         recorder.trace(&mut Draw::new(seed + 1 + i));
     }
@@ -171,8 +224,8 @@ pub fn record(path: &str, seed: u64) -> std::io::Result<()> {
     file.push(0);
     std::fs::write(path, &file)?;
     println!("{path}: {} records, {} bytes", grouped(recorder.records.into()), grouped(file.len() as u64));
-    for ((operation, answer, large), count) in &recorder.met {
-        println!("{count:>5}  {operation}: {answer}{}", if *large { " (large)" } else { "" });
+    for ((operation, answer, kind), count) in &recorder.met {
+        println!("{count:>5}  {operation}: {answer} ({kind})");
     }
     Ok(())
 }

@@ -1,5 +1,6 @@
 //! A small generator of numbers (SplitMix64), so that a seed gives the same run everywhere.
 
+#[derive(Clone)]
 pub struct Rng(u64);
 
 impl Rng {

@@ -5,10 +5,10 @@ use std::process::ExitCode;
 use locker_log::{read_header, Region, HEADER_LENGTH};
 
 fn list(file: &[u8]) -> Result<(), Box<dyn std::error::Error>> {
-    let ordinal = read_header(file)?;
-    let region = Region::new(&file[HEADER_LENGTH..]);
+    let header = read_header(file)?;
+    let region = Region::new(&file[HEADER_LENGTH..], header);
     let bound = region.used_bound()?;
-    println!("file {ordinal}, {bound} bytes in use");
+    println!("file {} of version {}, {bound} bytes in use", header.ordinal, header.version);
     for entry in region.listing(bound) {
         let entry = entry?;
         println!(

@@ -4,17 +4,22 @@
 //! number behind it ([`Refusal::number`]) and changes no byte and no state.
 //!
 //! ```
-//! use locker_log::{append_data, Kind, Region};
+//! use locker_log::{append_data, Header, Kind, Region};
 //!
+//! let header = Header { version: 2, ordinal: 7 };
 //! let mut bytes = [0u8; 64];
-//! let used = append_data(&mut bytes, 0, Kind::Insert, 1, b"A7", b"9").unwrap();
+//! let used = append_data(&mut bytes, header, 0, Kind::Insert, 1, b"A7", b"9").unwrap();
 //! assert_eq!(used, 16);
 //!
-//! let region = Region::new(&bytes);
+//! let region = Region::new(&bytes, header);
 //! let bound = region.used_bound().unwrap();
 //! let last = region.listing(bound).last().unwrap().unwrap();
 //! assert_eq!((last.key(), last.value()), (&b"A7"[..], &b"9"[..]));
 //! assert_eq!(region.durable_end(bound), Ok(16));
+//!
+//! // the card is used again, as file 8: what file 7 has left isn't seen
+//! let later = Region::new(&bytes, Header { version: 2, ordinal: 8 });
+//! assert_eq!(later.listing(bound).count(), 0);
 //! ```
 #![no_std]
 #![warn(missing_docs)]
@@ -33,6 +38,21 @@ use sys::RawEntry;
 
 /// The length of a file's header.
 pub const HEADER_LENGTH: usize = 4096;
+
+/// What a file's header says: its version, 1 or 2, and its ordinal. Together they decide the marks of its lines. Any
+/// other version may be passed too, and each call that needs a mark refuses it with 2.
+///
+/// In version 1 the ordinal has no effect on the marks. In version 2 it is added to them, so an entry left from an
+/// earlier use of the card, under another ordinal, doesn't verify. Ordinals that agree modulo 2^24 share their marks,
+/// and those that are 0 modulo 2^24 have version 1's. A line of 0xff is of type 3 where the mark is 0xFFFFFF; under an
+/// ordinal that is 0xA5E83F modulo 2^24 that is offset 0, and a walk of a region erased to 0xff gives 10 there.
+#[derive(Clone, Copy, Debug, PartialEq, Eq)]
+pub struct Header {
+    /// 1 or 2.
+    pub version: u64,
+    /// Which of a site's files it is.
+    pub ordinal: u64,
+}
 
 /// An entry's type.
 #[derive(Clone, Copy, Debug, PartialEq, Eq, Hash)]
@@ -75,23 +95,25 @@ pub fn update(state: u16, bytes: &[u8]) -> u16 {
     unsafe { sys::locker_update(state, bytes.as_ptr(), bytes.len()) }
 }
 
-/// The ordinal of the file that begins with these bytes. Refuses 1, 2.
-pub fn read_header(header: &[u8]) -> Result<u64, Refusal> {
-    let mut ordinal = 0;
-    // SAFETY: one slice, and a number of our own.
-    let number = unsafe { sys::locker_read_header(header.as_ptr(), header.len(), &mut ordinal) };
-    Refusal::check(number).map(|()| ordinal)
+/// The version and the ordinal of the file that begins with these bytes. Refuses 1, 2.
+pub fn read_header(header: &[u8]) -> Result<Header, Refusal> {
+    let (mut version, mut ordinal) = (0, 0);
+    // SAFETY: one slice, and two numbers of our own.
+    let number = unsafe { sys::locker_read_header(header.as_ptr(), header.len(), &mut version, &mut ordinal) };
+    Refusal::check(number).map(|()| Header { version, ordinal })
 }
 
-/// Fills the first 4,096 bytes and touches no more. Refuses 1.
-pub fn write_header(lent: &mut [u8], ordinal: u64) -> Result<(), Refusal> {
+/// Fills the first 4,096 bytes and touches no more. Refuses 1, 2 (neither version).
+pub fn write_header(lent: &mut [u8], header: Header) -> Result<(), Refusal> {
     // SAFETY: one slice, lent for writing.
-    Refusal::check(unsafe { sys::locker_write_header(lent.as_mut_ptr(), lent.len(), ordinal) })
+    Refusal::check(unsafe { sys::locker_write_header(lent.as_mut_ptr(), lent.len(), header.version, header.ordinal) })
 }
 
-/// Writes a data entry at the used count and answers the new one. Refuses 3, 5, 9 (a tombstone), 17, 11, 12, 13.
+/// Writes a data entry at the used count of a file with this header and answers the new one. Refuses 2, 3, 5, 9 (a
+/// tombstone), 17, 11, 12, 13.
 pub fn append_data(
     region: &mut [u8],
+    header: Header,
     used: usize,
     kind: Kind,
     namespace: u64,
@@ -104,6 +126,8 @@ pub fn append_data(
         sys::locker_append_data(
             region.as_mut_ptr(),
             region.len(),
+            header.version,
+            header.ordinal,
             used,
             kind.number(),
             namespace,
@@ -117,14 +141,23 @@ pub fn append_data(
     Refusal::check(number).map(|()| next as usize)
 }
 
-/// Writes a tombstone at the used count and answers the new one. Refuses 3, 5, 17, 11, 13.
-pub fn append_tombstone(region: &mut [u8], used: usize, namespace: u64, key: &[u8]) -> Result<usize, Refusal> {
+/// Writes a tombstone at the used count of a file with this header and answers the new one. Refuses 2, 3, 5, 17, 11,
+/// 13.
+pub fn append_tombstone(
+    region: &mut [u8],
+    header: Header,
+    used: usize,
+    namespace: u64,
+    key: &[u8],
+) -> Result<usize, Refusal> {
     let mut next = 0;
     // SAFETY: two slices, of which the one that is written to overlaps no other, and a number of our own.
     let number = unsafe {
         sys::locker_append_tombstone(
             region.as_mut_ptr(),
             region.len(),
+            header.version,
+            header.ordinal,
             used,
             namespace,
             key.as_ptr(),
@@ -156,10 +189,11 @@ pub fn start_file(ordinals: &[u64], cursor: u64) -> Result<Option<usize>, Refusa
     Refusal::check(number).map(|()| (found == 1).then_some(place as usize))
 }
 
-/// A data file without its header.
+/// A data file without its header, of which it keeps what the header says.
 #[derive(Clone, Copy, Debug)]
 pub struct Region<'a> {
     bytes: &'a [u8],
+    header: Header,
 }
 
 /// An entry of a region, with its own bytes at hand.
@@ -179,9 +213,9 @@ pub struct Listing<'a> {
 }
 
 impl<'a> Region<'a> {
-    /// These bytes, from the first behind the header on.
-    pub fn new(bytes: &'a [u8]) -> Region<'a> {
-        Region { bytes }
+    /// These bytes, from the first behind the header on, of the file that has this header.
+    pub fn new(bytes: &'a [u8], header: Header) -> Region<'a> {
+        Region { bytes, header }
     }
 
     /// One past the last nonzero byte, rounded up to a line, but at most the length. Refuses 3.
@@ -192,33 +226,62 @@ impl<'a> Region<'a> {
         Refusal::check(number).map(|()| bound as usize)
     }
 
-    /// The last verified entry's end rounded up to a line, or 0. Refuses 3, 4, then 10 with its place.
+    /// The last verified entry's end rounded up to a line, or 0. Refuses 2, 3, 4, then 10 with its place.
     pub fn durable_end(self, bound: usize) -> Result<usize, WalkError> {
         let (mut end, mut place) = (0, 0);
         // SAFETY: one slice, and two numbers of our own.
-        let number =
-            unsafe { sys::locker_durable_end(self.bytes.as_ptr(), self.bytes.len(), bound, &mut end, &mut place) };
+        let number = unsafe {
+            sys::locker_durable_end(
+                self.bytes.as_ptr(),
+                self.bytes.len(),
+                self.header.version,
+                self.header.ordinal,
+                bound,
+                &mut end,
+                &mut place,
+            )
+        };
         WalkError::check(number, place).map(|()| end as usize)
     }
 
-    /// The next verified entry from `offset` on, up to `bound`. Refuses 3, 4, then 10 with its place.
+    /// The next verified entry from `offset` on, up to `bound`. Refuses 2, 3, 4, then 10 with its place.
     pub fn walk(self, bound: usize, offset: usize) -> Result<Option<Entry<'a>>, WalkError> {
         let mut at = RawEntry::default();
         let (mut found, mut place) = (0, 0);
         // SAFETY: one slice, and an entry and two numbers of our own.
         let number = unsafe {
-            sys::locker_walk(self.bytes.as_ptr(), self.bytes.len(), bound, offset, &mut at, &mut found, &mut place)
+            sys::locker_walk(
+                self.bytes.as_ptr(),
+                self.bytes.len(),
+                self.header.version,
+                self.header.ordinal,
+                bound,
+                offset,
+                &mut at,
+                &mut found,
+                &mut place,
+            )
         };
         WalkError::check(number, place)?;
         Ok((found == 1).then_some(Entry { region: self, at }))
     }
 
     /// The data entry at a place, of which at most `hint` bytes are looked at. Its kind is the one that was written,
-    /// insert or update, as the walk tells it. Refuses 3, 5, then 6, 7, 6, 8, 9.
+    /// insert or update, as the walk tells it. Refuses 2, 3, 5, then 6, 7, 6, 8, 9.
     pub fn read_at(self, place: usize, hint: usize) -> Result<Entry<'a>, Refusal> {
         let mut at = RawEntry::default();
         // SAFETY: one slice, and an entry of our own.
-        let number = unsafe { sys::locker_read_at(self.bytes.as_ptr(), self.bytes.len(), place, hint, &mut at) };
+        let number = unsafe {
+            sys::locker_read_at(
+                self.bytes.as_ptr(),
+                self.bytes.len(),
+                self.header.version,
+                self.header.ordinal,
+                place,
+                hint,
+                &mut at,
+            )
+        };
         Refusal::check(number).map(|()| Entry { region: self, at })
     }
 

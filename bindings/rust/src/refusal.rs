@@ -79,7 +79,7 @@ impl core::error::Error for Refusal {}
 /// Why a walk refused: as any operation, or at a line of unknown type, with its place.
 #[derive(Clone, Copy, Debug, PartialEq, Eq, Hash)]
 pub enum WalkError {
-    /// 3 or 4.
+    /// 2, 3 or 4.
     Refused(Refusal),
     /// 10: the right mark with type 3, at this place.
     UnknownAt(usize),

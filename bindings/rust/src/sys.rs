@@ -84,12 +84,22 @@ const _: () = {
 extern "C" {
     pub fn locker_hash(bytes: *const u8, length: usize) -> u16;
     pub fn locker_update(state: u16, bytes: *const u8, length: usize) -> u16;
-    pub fn locker_read_header(header: *const u8, length: usize, ordinal: *mut u64) -> u32;
-    pub fn locker_write_header(lent: *mut u8, length: usize, ordinal: u64) -> u32;
-    pub fn locker_read_at(region: *const u8, length: usize, p: usize, hint: usize, entry: *mut RawEntry) -> u32;
+    pub fn locker_read_header(header: *const u8, length: usize, version: *mut u64, ordinal: *mut u64) -> u32;
+    pub fn locker_write_header(lent: *mut u8, length: usize, version: u64, ordinal: u64) -> u32;
+    pub fn locker_read_at(
+        region: *const u8,
+        length: usize,
+        version: u64,
+        ordinal: u64,
+        p: usize,
+        hint: usize,
+        entry: *mut RawEntry,
+    ) -> u32;
     pub fn locker_append_data(
         region: *mut u8,
         length: usize,
+        version: u64,
+        ordinal: u64,
         used: usize,
         kind: u64,
         ns: u64,
@@ -102,6 +112,8 @@ extern "C" {
     pub fn locker_append_tombstone(
         region: *mut u8,
         length: usize,
+        version: u64,
+        ordinal: u64,
         used: usize,
         ns: u64,
         key: *const u8,
@@ -111,6 +123,8 @@ extern "C" {
     pub fn locker_walk(
         region: *const u8,
         length: usize,
+        version: u64,
+        ordinal: u64,
         bound: usize,
         offset: usize,
         entry: *mut RawEntry,
@@ -119,7 +133,15 @@ extern "C" {
     ) -> u32;
     pub fn locker_part(region: *const u8, length: usize, at: usize, len: usize, start: *mut u64, count: *mut u64);
     pub fn locker_used_bound(region: *const u8, length: usize, bound: *mut u64) -> u32;
-    pub fn locker_durable_end(region: *const u8, length: usize, bound: usize, end: *mut u64, place: *mut u64) -> u32;
+    pub fn locker_durable_end(
+        region: *const u8,
+        length: usize,
+        version: u64,
+        ordinal: u64,
+        bound: usize,
+        end: *mut u64,
+        place: *mut u64,
+    ) -> u32;
     pub fn locker_replay_data(klen: usize, vlen: usize, maximum: usize) -> u32;
     pub fn locker_replay_tombstone(klen: usize, maximum: usize) -> u32;
     pub fn locker_start_file(ordinals: *const u64, count: usize, cursor: u64, place: *mut u64, found: *mut u64) -> u32;

@@ -161,17 +161,18 @@ pub fn least_along(slots: &[Slot], ordinal: u64, used: u64) -> Least {
 /// none.
 ///
 /// ```
-/// use locker_log::{append_data, ActiveFile, Finished, Kind, Refusal, Tracker, NO_LIMIT};
+/// use locker_log::{append_data, ActiveFile, Finished, Header, Kind, Refusal, Tracker, NO_LIMIT};
 ///
+/// let header = Header { version: 2, ordinal: 7 };
 /// let mut region = [0u8; 32];
-/// let mut file = ActiveFile { ordinal: 7, used: 0, capacity: 32, sealed: false };
+/// let mut file = ActiveFile { ordinal: header.ordinal, used: 0, capacity: 32, sealed: false };
 /// let mut tracker = Tracker::new();
 ///
 /// let reserved = tracker.reserve(3, &file, 16)?;
 /// file.used = reserved.used;
 /// assert_eq!(tracker.checkpoint(file.ordinal, file.used)?.offset, 0);
 ///
-/// append_data(&mut region, reserved.place as usize, Kind::Insert, 1, b"A7", b"9")?;
+/// append_data(&mut region, header, reserved.place as usize, Kind::Insert, 1, b"A7", b"9")?;
 /// assert_eq!(tracker.complete(3, reserved.number, 1)?, Finished::Done);
 ///
 /// let progress = tracker.checkpoint(file.ordinal, file.used)?;

@@ -1,3 +1,4 @@
 pub mod Cases
 pub mod Orders
+pub mod Versions
 pub mod Only

@@ -1,10 +1,19 @@
 -- Where no test of an ordered list holds: what an accepting operation has found out.
 -- Assumes nothing.
 use Prim.Native.Nat.{ℕ, zero, suc}
-use mathlib.Core.Bool.{Bool, true, false}
+use mathlib.Core.Bool.{Bool, true, false, not}
 use mathlib.Core.Path.{_≡_, refl}
 use native.Mathlib.Omega.{arith}
 use Rattle.answers.specs.Answers.{Said, accepted, pickNumber, unlessRefused}
+
+-- what the test of a negation has found out
+pub not-true : (b : Bool) → not b ≡ true → b ≡ false
+not-true true h = absurd (let z : _≡_ {A = ℕ} 0 1 = cc in omega arith)
+not-true false h = refl
+
+pub not-false : (b : Bool) → not b ≡ false → b ≡ true
+not-false true h = refl
+not-false false h = absurd (let z : _≡_ {A = ℕ} 0 1 = cc in omega arith)
 
 -- the test at hand is passed over, and the number of none of them is 0
 pub first-passed : (test : Bool) (n rest : ℕ) → pickNumber test (suc n) rest ≡ 0 → (test ≡ false) × (rest ≡ 0)

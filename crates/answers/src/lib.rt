@@ -3,6 +3,7 @@
 // specs/Numbers.antt and one in `number` below.
 ghost use mathlib.Core.Path.{_≡_};
 ghost use Rattle.answers.specs.Numbers.{numberOf, numberOfVerdict};
+ghost use Rattle.answers.specs.Versions.{isVersion};
 
 // The limits that refusals speak of.
 pub const LARGEST_REGION: usize = 268435456;
@@ -13,10 +14,15 @@ pub const LARGEST_VALUE: usize = 32768;
 
 pub const LAST_NAMESPACE: u64 = 63;
 
+// The versions of a file.
+pub const VERSION_1: u64 = 1;
+
+pub const VERSION_2: u64 = 2;
+
 pub enum Refusal {
     // 1: header shorter than 4,096
     HeaderTooShort,
-    // 2: wrong signature or version
+    // 2: wrong signature, or neither version
     WrongHeader,
     // 3: region or configured maximum over 268,435,456
     RegionTooLarge,
@@ -89,6 +95,13 @@ pub fn number(refusal: Refusal) -> u32
         Refusal::EqualOrdinals => 22,
         Refusal::NotSound => 28,
     }
+}
+
+// Whether a file may have this version. Any other gets 2 (document 02, request 10).
+pub fn is_version(version: u64) -> bool
+    ensures { λ r. ⌜ r ≡ isVersion version ⌝ }
+{
+    version == VERSION_1 || version == VERSION_2
 }
 
 // 0 for accepted, which is no refusal's number.

@@ -1,13 +1,12 @@
 -- What an accepted append has found out.
 -- Assumes nothing.
 use Prim.Native.Nat.{ℕ, _+_, _%_, _≤_}
-use mathlib.Core.Path.{_≡_, refl}
-use mathlib.Core.Bool.{Bool, true, false, not}
-use native.Mathlib.Omega.{arith}
+use mathlib.Core.Path.{_≡_}
+use mathlib.Core.Bool.{Bool, true, not}
 use borrow.Author.Tests.{ltb-false, eqb-true}
 use lib.Dec.{ltb, eqb}
 use Rattle.answers.specs.Limits.{largestRegion, largestKey, largestValue, lastNamespace}
-use Rattle.answers.proofs.Orders.{first-passed}
+use Rattle.answers.proofs.Orders.{not-false, first-passed}
 use Rattle.fields.specs.Numbers.{aligned}
 use Rattle.entry.specs.Layout.{lengthOf}
 use Rattle.append.specs.Append.{appendRefusal, appendTests}
@@ -21,10 +20,6 @@ pub record Accepted (n used : ℕ) (allowed : Bool) (kind ns klen vlen : ℕ) : 
   pub values : vlen ≤ largestValue
   pub room : used + aligned (lengthOf kind klen vlen) ≤ n
 
-untrue : (b : Bool) → not b ≡ false → b ≡ true
-untrue true h = refl
-untrue false h = absurd (let z : _≡_ {A = ℕ} 0 1 = cc in omega arith)
-
 pub accepted-facts : {n used : ℕ} {allowed : Bool} {kind ns klen vlen : ℕ} → appendRefusal n used allowed kind ns klen vlen ≡ 0 → Accepted n used allowed kind ns klen vlen
 unfolding appendRefusal appendTests
 accepted-facts {n} {used} {allowed} {kind} {ns} {klen} {vlen} h =
@@ -37,8 +32,8 @@ accepted-facts {n} {used} {allowed} {kind} {ns} {klen} {vlen} h =
     let g = first-passed (ltb n (used + aligned (lengthOf kind klen vlen))) 12 _ (f .1) in
     record {
       small = ltb-false _ _ (a .0);
-      line = eqb-true _ _ (untrue _ (b .0));
-      taken = untrue _ (c .0);
+      line = eqb-true _ _ (not-false _ (b .0));
+      taken = not-false _ (c .0);
       spaces = ltb-false _ _ (d .0);
       keys = ltb-false _ _ (e .0);
       values = ltb-false _ _ (f .0);

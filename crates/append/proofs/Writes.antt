@@ -5,7 +5,7 @@ use mathlib.Core.Path.{_≡_, sym, ap, _∙_}
 use mathlib.Core.List.{List}
 use mathlib.Core.Bool.{Bool}
 use lib.ListN.{length}
-use Rattle.answers.specs.Answers.{Said, accepted, afterwards}
+use Rattle.answers.specs.Answers.{Said, accepted, unlessRefused, afterwards}
 use Rattle.answers.proofs.Orders.{accepted-unrefused}
 use Rattle.fields.specs.Runs.{over}
 use Rattle.append.specs.Bytes.{Item, encoded, sizeOf}
@@ -19,11 +19,12 @@ pub record Wrote (mark : ℕ → ℕ) (region : List ℕ) (used : ℕ) (allowed 
   pub grown : next ≡ used + sizeOf i
   pub bytes : after ≡ over region used (encoded (mark used) i)
 
-pub wrote : (mark : ℕ → ℕ) (region : List ℕ) (used : ℕ) (allowed : Bool) (i : Item) {answer : Appended} {next : ℕ} {after : List ℕ} → Appends mark region used allowed i answer after → said answer ≡ accepted next → Wrote mark region used allowed i next after
+pub wrote : (mark : ℕ → ℕ) (region : List ℕ) (used : ℕ) (allowed : Bool) (i : Item) {first : ℕ} {answer : Appended} {next : ℕ} {after : List ℕ} → Appends first mark region used allowed i answer after → said answer ≡ accepted next → Wrote mark region used allowed i next after
 unfolding appendOf
-wrote mark region used allowed i {answer} {next} {after} a e =
-    let yes : appendOf region used allowed i ≡ accepted next = sym (a .says) ∙ e in
-    let u = accepted-unrefused (appendRefusal (length region) used allowed (i .kind) (i .ns) (length (i .key)) (length (i .value))) (accepted (used + sizeOf i)) yes in
+wrote mark region used allowed i {first} {answer} {next} {after} a e =
+    let yes : unlessRefused first (appendOf region used allowed i) ≡ accepted next = sym (a .says) ∙ e in
+    let v = accepted-unrefused first (appendOf region used allowed i) yes in
+    let u = accepted-unrefused (appendRefusal (length region) used allowed (i .kind) (i .ns) (length (i .key)) (length (i .value))) (accepted (used + sizeOf i)) (v .1) in
     let same : accepted (used + sizeOf i) ≡ accepted next = u .1 in
     record {
       facts = accepted-facts (u .0);

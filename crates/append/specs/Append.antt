@@ -41,10 +41,11 @@ appendOf region used allowed i =
     unlessRefused (appendRefusal (length region) used allowed (i .kind) (i .ns) (length (i .key)) (length (i .value)))
     (accepted (used + sizeOf i))
 
--- "Bytes outside the aligned entry stay.": under a mark rule, what an append answers for a region and what it leaves of it
-pub record Appends (mark : ℕ → ℕ) (region : List ℕ) (used : ℕ) (allowed : Bool) (i : Item) (answer : Appended) (after : List ℕ) : Type 0 where
-  pub says : said answer ≡ appendOf region used allowed i
-  pub leaves : after ≡ afterwards (appendOf region used allowed i) region (over region used (encoded (mark used) i))
+-- "Bytes outside the aligned entry stay.": under a mark rule, what an append answers for a region and what it leaves of it. `first` is the refusal
+-- that comes "before all others", 0 where there is none: a version's (document 02, request 10), as `versionRefusal` gives it
+pub record Appends (first : ℕ) (mark : ℕ → ℕ) (region : List ℕ) (used : ℕ) (allowed : Bool) (i : Item) (answer : Appended) (after : List ℕ) : Type 0 where
+  pub says : said answer ≡ unlessRefused first (appendOf region used allowed i)
+  pub leaves : after ≡ afterwards (unlessRefused first (appendOf region used allowed i)) region (over region used (encoded (mark used) i))
 
 -- "A data append takes type 0 or 1"
 abbrev pub dataKind : ℕ → Bool

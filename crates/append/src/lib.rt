@@ -1,15 +1,16 @@
 // Document 01, append: a data entry or a tombstone is written at the used count, and the new used
-// count is the answer. `append_data` and `append_tombstone` are the public operations, for version
-// 1's mark; the seeded ones take the mark's seed.
+// count is the answer. `append_data` and `append_tombstone` are the public operations, for a file of
+// either version (document 02, request 10); the seeded ones take the mark's seed.
 ghost use mathlib.Core.Path.{_≡_};
 ghost use mathlib.Core.Bool.{true};
 ghost use mathlib.Core.List.{[]};
 ghost use Prim.Native.Nat.{_+_, _%_, _^_, _<_, _≤_};
 ghost use lib.ListN.{length};
 ghost use Rattle.answers.specs.Numbers.{numberOfVerdict};
+ghost use Rattle.answers.specs.Versions.{versionRefusal};
 ghost use Rattle.fields.specs.Numbers.{aligned};
 ghost use Rattle.fields.specs.Runs.{over};
-ghost use Rattle.entry.specs.Words.{markFrom, version1};
+ghost use Rattle.entry.specs.Words.{markFrom, markOf};
 ghost use Rattle.entry.specs.Layout.{headLength, lengthOf};
 ghost use Rattle.append.specs.Bytes.{item, headOf, coveredOf, encoded};
 ghost use Rattle.append.specs.Append.{Appends, appendRefusal, dataKind};
@@ -134,7 +135,7 @@ fn append(
     value: &[u8],
 ) -> Appended
     requires { ⌜ (allowed ≡ true → kind < 2 ^ 2) ⌝ }
-    ensures { λ r. ⌜ Appends (markFrom seed) (now (region .entry)) used allowed (item kind ns (now (key .entry)) (now (value .entry))) r (now (region .exit)) ⌝ }
+    ensures { λ r. ⌜ Appends 0 (markFrom seed) (now (region .entry)) used allowed (item kind ns (now (key .entry)) (now (value .entry))) r (now (region .exit)) ⌝ }
 {
     let verdict = check(
         region.len(),
@@ -160,7 +161,7 @@ pub fn seeded_append_data(
     key: &[u8],
     value: &[u8],
 ) -> Appended
-    ensures { λ r. ⌜ Appends (markFrom seed) (now (region .entry)) used (dataKind kind) (item kind ns (now (key .entry)) (now (value .entry))) r (now (region .exit)) ⌝ }
+    ensures { λ r. ⌜ Appends 0 (markFrom seed) (now (region .entry)) used (dataKind kind) (item kind ns (now (key .entry)) (now (value .entry))) r (now (region .exit)) ⌝ }
 {
     append(
         region,
@@ -181,7 +182,7 @@ pub fn seeded_append_tombstone(
     ns: u64,
     key: &[u8],
 ) -> Appended
-    ensures { λ r. ⌜ Appends (markFrom seed) (now (region .entry)) used true (item 2 ns (now (key .entry)) []) r (now (region .exit)) ⌝ }
+    ensures { λ r. ⌜ Appends 0 (markFrom seed) (now (region .entry)) used true (item 2 ns (now (key .entry)) []) r (now (region .exit)) ⌝ }
 {
     append(
         region,
@@ -195,23 +196,41 @@ pub fn seeded_append_tombstone(
     )
 }
 
-// A data entry, type 0 or 1. Refusals 3, 5, 9, 17, 11, 12, 13.
+// A data entry, type 0 or 1, in a file of this version and ordinal. Refusals 2, 3, 5, 9, 17, 11, 12,
+// 13.
 pub fn append_data(
     region: &mut [u8],
+    version: u64,
+    ordinal: u64,
     used: usize,
     kind: u64,
     ns: u64,
     key: &[u8],
     value: &[u8],
 ) -> Appended
-    ensures { λ r. ⌜ Appends version1 (now (region .entry)) used (dataKind kind) (item kind ns (now (key .entry)) (now (value .entry))) r (now (region .exit)) ⌝ }
+    ensures { λ r. ⌜ Appends (versionRefusal version) (markOf version ordinal) (now (region .entry)) used (dataKind kind) (item kind ns (now (key .entry)) (now (value .entry))) r (now (region .exit)) ⌝ }
 {
-    seeded_append_data(region, entry::SEED, used, kind, ns, key, value)
+    if !answers::is_version(version) {
+        return Appended::Refused(Refusal::WrongHeader);
+    }
+    let seed = entry::seed_of(version, ordinal);
+    seeded_append_data(region, seed, used, kind, ns, key, value)
 }
 
-// A tombstone. Refusals 3, 5, 17, 11, 13.
-pub fn append_tombstone(region: &mut [u8], used: usize, ns: u64, key: &[u8]) -> Appended
-    ensures { λ r. ⌜ Appends version1 (now (region .entry)) used true (item 2 ns (now (key .entry)) []) r (now (region .exit)) ⌝ }
+// A tombstone, in a file of this version and ordinal. Refusals 2, 3, 5, 17, 11, 13.
+pub fn append_tombstone(
+    region: &mut [u8],
+    version: u64,
+    ordinal: u64,
+    used: usize,
+    ns: u64,
+    key: &[u8],
+) -> Appended
+    ensures { λ r. ⌜ Appends (versionRefusal version) (markOf version ordinal) (now (region .entry)) used true (item 2 ns (now (key .entry)) []) r (now (region .exit)) ⌝ }
 {
-    seeded_append_tombstone(region, entry::SEED, used, ns, key)
+    if !answers::is_version(version) {
+        return Appended::Refused(Refusal::WrongHeader);
+    }
+    let seed = entry::seed_of(version, ordinal);
+    seeded_append_tombstone(region, seed, used, ns, key)
 }

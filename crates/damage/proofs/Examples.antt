@@ -5,28 +5,29 @@ use mathlib.Core.List.{[], _∷_, _++_}
 use native.Mathlib.Bridge.{le-by-compare, IsLe}
 use lib.ListN.{take, replicate, set}
 use Rattle.answers.specs.Answers.{accepted, refused}
+use Rattle.answers.specs.Versions.{isVersion, versionRefusal}
 use Rattle.fields.specs.Numbers.{field, bytesOf, aligned}
 use Rattle.fields.specs.Runs.{over}
 use Rattle.checksum.specs.Catalogue.{taken, step, steps, byte, crcFrom, crc16}
-use Rattle.entry.specs.Words.{markFrom, version1, wordOf, wordMark, wordNamespace, wordKind}
+use Rattle.entry.specs.Words.{markFrom, version1, seedOf, markOf, wordOf, wordMark, wordNamespace, wordKind}
 use Rattle.entry.specs.Layout.{headLength, lengthOf, placed, entryAt, agrees, intact, verifies}
 use Rattle.append.specs.Bytes.{item, headOf, coveredOf, encoded}
 use Rattle.append.specs.Append.{appendOf, appendRefusal, appendTests}
 use Rattle.append.specs.declared.Appended.the-variants.{Used}
-use Rattle.scan.specs.Walk.{trial, walkLines, walkFrom, walk}
+use Rattle.scan.specs.Walk.{ended, trial, walkLines, walkFrom, walk}
 use Rattle.scan.specs.Listing.{listMost, list}
 use Rattle.scan.specs.Parts.{fits, partOf}
 use Rattle.tail.specs.Tail.{nonzeroTo, usedBound, durable, durableOf}
 use Rattle.damage.specs.Log.{Logged, zeroed, data-appended, tombstone-appended}
-use Rattle.damage.specs.Examples.{listed, readBack, a7, nine, ten, gone, nineBytes, tenBytes, goneBytes, around, changedValue, changedType, changedAcross, nesting, nestedSum, nestedTombstone, leftOver, zeroSum}
+use Rattle.damage.specs.Examples.{listedUnder, readBackUnder, listed, readBack, a7, nine, ten, gone, nineBytes, tenBytes, goneBytes, around, changedValue, changedType, changedAcross, nesting, nestedSum, nestedTombstone, leftOver, zeroSum, recycledCard}
 
 -- the three appends, each by its contract, give these bytes
 pub appended-three : Logged version1 (around tenBytes) 48 (nine ∷ ten ∷ gone ∷ [])
-unfolding IsLe over encoded coveredOf headOf bytesOf wordOf markFrom aligned headLength lengthOf crc16 crcFrom byte steps step taken appendOf appendRefusal appendTests
+unfolding IsLe over encoded coveredOf headOf bytesOf wordOf markFrom aligned headLength lengthOf crc16 crcFrom byte steps step taken isVersion versionRefusal appendOf appendRefusal appendTests
 appended-three =
-    tombstone-appended {answer = Used 48}
-    (data-appended {answer = Used 32}
-    (data-appended {answer = Used 16} (zeroed 64 (le-by-compare 64 268435456 tt)) (record { says = refl; leaves = refl }) refl)
+    tombstone-appended {first = versionRefusal 1} {answer = Used 48}
+    (data-appended {first = versionRefusal 1} {answer = Used 32}
+    (data-appended {first = versionRefusal 1} {answer = Used 16} (zeroed 64 (le-by-compare 64 268435456 tt)) (record { says = refl; leaves = refl }) refl)
     (record { says = refl; leaves = refl }) refl)
     (record { says = refl; leaves = refl }) refl
 
@@ -91,3 +92,18 @@ zero-sum-shown = refl
 pub two-stretches : readBack (set nineBytes 8 0x38 ++ (tenBytes ++ (set goneBytes 7 0x38 ++ replicate 16 0))) ≡ ten ∷ []
 unfolding field aligned over crc16 crcFrom byte steps step taken markFrom wordMark wordNamespace wordKind headLength placed entryAt agrees intact verifies trial walkLines walkFrom walk listMost list fits partOf nonzeroTo usedBound
 two-stretches = refl
+
+-- the recycled card's entries are what appends write: the insert under ordinal 8, the others under ordinal 7
+pub recycled-written : recycledCard ≡ encoded (markOf 2 8 0) nine ++ (encoded (markOf 2 7 16) ten ++ (encoded (markOf 2 7 32) gone ++ replicate 16 0))
+unfolding encoded coveredOf headOf bytesOf wordOf markFrom seedOf aligned crc16 crcFrom byte steps step taken
+recycled-written = refl
+
+-- under ordinal 8 the old entries are not listed; under ordinal 7 they still would be, and the insert would not
+pub recycled-listed : (readBackUnder (markOf 2 8) recycledCard ≡ nine ∷ []) × (readBackUnder (markOf 2 7) recycledCard ≡ ten ∷ gone ∷ []) × (readBack recycledCard ≡ [])
+unfolding field aligned over crc16 crcFrom byte steps step taken markFrom seedOf wordMark wordNamespace wordKind headLength placed entryAt agrees intact verifies trial walkLines walkFrom walk listMost list fits partOf nonzeroTo usedBound
+recycled-listed = (refl, refl, refl)
+
+-- a region of 0xff: where an ordinal gives offset 0 the mark 0xFFFFFF, the listing ends with 10 there, and under the ordinals beside it with End
+pub erased-stops : (listedUnder (markOf 2 0xA5E83F) (replicate 16 0xFF) .stop ≡ refused 10 (0 ∷ [])) × (listedUnder (markOf 2 0xA5E83E) (replicate 16 0xFF) .stop ≡ accepted ended) × (listedUnder (markOf 2 0xA5E840) (replicate 16 0xFF) .stop ≡ accepted ended)
+unfolding field aligned over crc16 crcFrom byte steps step taken markFrom seedOf wordMark wordNamespace wordKind headLength placed entryAt agrees intact verifies trial walkLines walkFrom walk listMost list fits partOf nonzeroTo usedBound
+erased-stops = (refl, refl, refl)

@@ -11,3 +11,4 @@ pub mod Torn
 pub mod Examples
 pub mod Worked
 pub mod Stretches
+pub mod Recycled

@@ -2,14 +2,17 @@
 -- Assumes nothing.
 use Prim.Native.Nat.{ℕ, _+_, _%_, _^_, _<_, _≤_}
 use mathlib.Core.Path.{_≡_, refl, sym, ap, ap₂, subst, _∙_}
+use mathlib.Core.Bool.{true}
 use mathlib.Core.List.{List, _++_, append-nil, map-append}
 use native.Mathlib.Omega.{arith}
 use native.Mathlib.Nat.{zero-add}
 use lib.ListN.{length, getD}
 use Rattle.answers.specs.Answers.{accepted}
 use Rattle.answers.specs.Limits.{largestRegion}
+use Rattle.answers.specs.Versions.{isVersion}
+use Rattle.answers.proofs.Versions.{right-version}
 use Rattle.fields.proofs.Laying.{over-length, over-before, over-behind}
-use Rattle.entry.specs.Words.{version1}
+use Rattle.entry.specs.Words.{seedOf, markOf}
 use Rattle.entry.specs.declared.Entry.{Entry}
 use Rattle.entry.proofs.Packing.{mark-lt}
 use Rattle.append.specs.Bytes.{Item}
@@ -20,7 +23,7 @@ use Rattle.scan.proofs.Walks.{walkOf-accepted}
 use Rattle.tail.specs.Tail.{usedBound, durable}
 use Rattle.tail.proofs.Zeros.{used-length, used-least, used-accepted, durable-accepted}
 use Rattle.damage.specs.Log.{Logged, sizes, entriesFrom}
-use Rattle.damage.specs.Damage.{Quiet, Damaged, Survives, outside, itemAt}
+use Rattle.damage.specs.Damage.{Quiet, Damaged, Survives, SurvivesIn, outside, itemAt}
 use Rattle.damage.proofs.Local.{Same}
 use Rattle.damage.proofs.Listings.{onto, list-over, list-skip}
 use Rattle.damage.proofs.Logs.{Stand, stand-split, stand-same, stand-listed, stand-read, sizes-line, sizes-append, stored}
@@ -89,9 +92,12 @@ damage-theorem mark marks {region} {damaged} {used} before lost after log d =
     (λ k x. sym (back k (omega arith)) ∙ whole .blank k (omega arith))
     (d .quiet)
 
--- the same under version 1's mark rule, which the calls without a seed go by
-pub damage-theorem-1 : {region damaged : List ℕ} {used : ℕ} (before lost after : List Item)
-    → Logged version1 region used (before ++ (lost ++ after))
-    → Damaged version1 region before lost damaged
-    → Survives version1 damaged before lost after
-damage-theorem-1 before lost after log d = damage-theorem version1 (mark-lt 0x5A17C0) before lost after log d
+-- the same for a file of version 1 or 2, within its version and its ordinal, for the calls that take both
+pub damage-theorem-in : (version ordinal : ℕ) → isVersion version ≡ true
+    → {region damaged : List ℕ} {used : ℕ} (before lost after : List Item)
+    → Logged (markOf version ordinal) region used (before ++ (lost ++ after))
+    → Damaged (markOf version ordinal) region before lost damaged
+    → SurvivesIn version ordinal damaged before lost after
+damage-theorem-in version ordinal known before lost after log d =
+    let s = damage-theorem (markOf version ordinal) (mark-lt (seedOf version ordinal)) before lost after log d in
+    record { survives = s; walked = λ offset. right-version version _ known ∙ s .walked offset; durably = right-version version _ known ∙ s .durably }

@@ -4,22 +4,23 @@ use Prim.Native.Nat.{ℕ}
 use mathlib.Core.Path.{_≡_, refl, subst}
 use mathlib.Core.List.{[], _∷_}
 use native.Mathlib.Omega.{arith}
+use Rattle.answers.specs.Versions.{isVersion}
 use Rattle.fields.specs.Numbers.{field, aligned}
 use Rattle.fields.specs.Runs.{over}
 use Rattle.checksum.specs.Catalogue.{taken, step, steps, byte, crcFrom, crc16}
-use Rattle.entry.specs.Words.{markFrom, version1, wordMark, wordNamespace, wordKind}
+use Rattle.entry.specs.Words.{markFrom, version1, seedOf, wordMark, wordNamespace, wordKind}
 use Rattle.entry.specs.Layout.{headLength, lengthOf, placed, entryAt, agrees, intact, verifies}
 use Rattle.damage.specs.Log.{sizes}
-use Rattle.damage.specs.Damage.{Quiet, Survives}
+use Rattle.damage.specs.Damage.{Quiet, SurvivesIn}
 use Rattle.damage.specs.Examples.{nine, ten, gone, around, changedValue}
 use Rattle.damage.proofs.Examples.{appended-three}
-use Rattle.damage.proofs.Theorem.{damage-theorem-1}
+use Rattle.damage.proofs.Theorem.{damage-theorem-in}
 
 -- the damage theorem at this log, with one byte of the second entry's value changed: its hypotheses can be met
-pub second-lost : Survives version1 (around changedValue) (nine ∷ []) (ten ∷ []) (gone ∷ [])
-unfolding field aligned over crc16 crcFrom byte steps step taken markFrom wordMark wordNamespace wordKind headLength lengthOf placed entryAt agrees intact verifies sizes
+pub second-lost : SurvivesIn 1 0 (around changedValue) (nine ∷ []) (ten ∷ []) (gone ∷ [])
+unfolding field aligned over crc16 crcFrom byte steps step taken markFrom wordMark wordNamespace wordKind headLength lengthOf placed entryAt agrees intact verifies sizes isVersion seedOf
 second-lost =
-    damage-theorem-1 (nine ∷ []) (ten ∷ []) (gone ∷ []) appended-three
+    damage-theorem-in 1 0 refl (nine ∷ []) (ten ∷ []) (gone ∷ []) appended-three
     (record {
       run = changedValue;
       filling = refl;

@@ -10,14 +10,14 @@ use lib.ListN.{length}
 use Rattle.answers.specs.Answers.{accepted}
 use Rattle.fields.specs.Numbers.{field, aligned}
 use Rattle.fields.specs.Runs.{over}
-use Rattle.entry.specs.Words.{wordMark, wordKind}
+use Rattle.entry.specs.Words.{markOf, wordMark, wordKind}
 use Rattle.entry.specs.Layout.{verifies}
 use Rattle.entry.specs.declared.Entry.{Entry}
 use Rattle.append.specs.Bytes.{Item, item}
-use Rattle.scan.specs.Walk.{ended, walk, walkOf}
+use Rattle.scan.specs.Walk.{ended, walk, walkOf, walkIn}
 use Rattle.scan.specs.Listing.{list, lastEnd}
 use Rattle.scan.specs.Parts.{partOf}
-use Rattle.tail.specs.Tail.{usedBound, usedOf, durableOf}
+use Rattle.tail.specs.Tail.{usedBound, usedOf, durableOf, durableIn}
 use Rattle.damage.specs.Log.{sizes, entriesFrom}
 
 -- "no line .. verifies, and none with eight bytes left holds the right mark with type 3", of one line
@@ -52,3 +52,10 @@ pub record Survives (mark : ℕ → ℕ) (damaged : List ℕ) (before lost after
   pub kept : map (itemAt damaged) (outside before lost after) ≡ before ++ after
   -- "and the durable end is the last one's aligned end, or 0"
   pub durably : durableOf mark damaged (usedBound damaged) ≡ accepted (aligned (lastEnd 0 (outside before lost after)))
+
+-- Document 02, request 10: "Demand 3 reads within one version and one ordinal". The same of a file that has them, and in the words of the calls
+-- that take them: no walk is refused with 2 either, nor is the durable end
+pub record SurvivesIn (version ordinal : ℕ) (damaged : List ℕ) (before lost after : List Item) : Type 0 where
+  pub survives : Survives (markOf version ordinal) damaged before lost after
+  pub walked : (offset : ℕ) → walkIn version ordinal damaged (usedBound damaged) offset ≡ walk (markOf version ordinal) damaged (usedBound damaged) offset
+  pub durably : durableIn version ordinal damaged (usedBound damaged) ≡ accepted (aligned (lastEnd 0 (outside before lost after)))

@@ -11,11 +11,18 @@ use Rattle.tail.specs.Tail.{usedBound}
 use Rattle.damage.specs.Damage.{itemAt}
 
 -- the listing up to the used bound, and what is read back from its entries
+abbrev pub listedUnder : (ℕ → ℕ) → List ℕ → Listed
+listedUnder mark s = list mark s (usedBound s) 0
+
+abbrev pub readBackUnder : (ℕ → ℕ) → List ℕ → List Item
+readBackUnder mark s = map (itemAt s) (listedUnder mark s .entries)
+
+-- in version 1, of which all the examples are but the last
 abbrev pub listed : List ℕ → Listed
-listed s = list version1 s (usedBound s) 0
+listed = listedUnder version1
 
 abbrev pub readBack : List ℕ → List Item
-readBack s = map (itemAt s) (listed s .entries)
+readBack = readBackUnder version1
 
 -- the key of the examples, "A7"
 abbrev pub a7 : List ℕ
@@ -78,3 +85,19 @@ leftOver = 0xC1 ∷ 0x17 ∷ 0x5A ∷ 0x01 ∷ 0x02 ∷ 0x00 ∷ 0x01 ∷ 0x00 �
 -- an insert without a key whose first ten bytes have the checksum 0
 abbrev pub zeroSum : List ℕ
 zeroSum = 0xC0 ∷ 0x17 ∷ 0x5A ∷ 0x01 ∷ 0x00 ∷ 0x00 ∷ 0x04 ∷ 0x00 ∷ 0x84 ∷ 0x53 ∷ 0x34 ∷ 0x32 ∷ 0x40 ∷ 0xDF ∷ 0xFF ∷ 0xFF ∷ []
+
+-- the same update and tombstone in a version 2 file of ordinal 7
+abbrev pub tenBytes7 : List ℕ
+tenBytes7 = 0xC8 ∷ 0x17 ∷ 0x5A ∷ 0x41 ∷ 0x02 ∷ 0x00 ∷ 0x02 ∷ 0x00 ∷ 0x31 ∷ 0x30 ∷ 0x41 ∷ 0x37 ∷ 0xD0 ∷ 0xB1 ∷ 0xFF ∷ 0xFF ∷ []
+
+abbrev pub goneBytes7 : List ℕ
+goneBytes7 = 0xC9 ∷ 0x17 ∷ 0x5A ∷ 0x81 ∷ 0x02 ∷ 0x00 ∷ 0x41 ∷ 0x37 ∷ 0x6F ∷ 0xA6 ∷ 0xFF ∷ 0xFF ∷ 0xFF ∷ 0xFF ∷ 0xFF ∷ 0xFF ∷ []
+
+-- and the insert in one of ordinal 8
+abbrev pub nineBytes8 : List ℕ
+nineBytes8 = 0xC8 ∷ 0x17 ∷ 0x5A ∷ 0x01 ∷ 0x02 ∷ 0x00 ∷ 0x01 ∷ 0x00 ∷ 0x39 ∷ 0x41 ∷ 0x37 ∷ 0x31 ∷ 0x7E ∷ 0xFF ∷ 0xFF ∷ 0xFF ∷ []
+
+-- a recycled card: of its first life, in a file of ordinal 7, the update and the tombstone are left at their places, and the insert of its second
+-- life, in a file of ordinal 8, stands where the first life's insert stood
+abbrev pub recycledCard : List ℕ
+recycledCard = nineBytes8 ++ (tenBytes7 ++ (goneBytes7 ++ replicate 16 0))

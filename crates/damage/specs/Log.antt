@@ -15,18 +15,19 @@ use Rattle.append.specs.Append.{Appends, said, dataKind}
 use Rattle.append.specs.declared.Appended.{Appended}
 
 -- a region, the used count that was answered last, and what was appended so far, in order. Each step takes the contract of the call that was
--- made, `Appends`, at the used count just answered, and that the call's answer was an accepting one
+-- made, `Appends`, at the used count just answered, and that the call's answer was an accepting one: so whatever refusal would have come first,
+-- a wrong version's, did not come. A log is under one mark rule: "Demand 3 reads within one version and one ordinal"
 pub data Logged (mark : ℕ → ℕ) : List ℕ → ℕ → List Item → Type 0 where
   -- "a zeroed region", of a size that the operations take, and "offset 0"
   zeroed : (n : ℕ) → n ≤ largestRegion → Logged mark (replicate n 0) 0 []
-  data-appended : {region after key value : List ℕ} {used next kind ns : ℕ} {items : List Item} {answer : Appended}
+  data-appended : {region after key value : List ℕ} {first used next kind ns : ℕ} {items : List Item} {answer : Appended}
       → Logged mark region used items
-      → Appends mark region used (dataKind kind) (item kind ns key value) answer after
+      → Appends first mark region used (dataKind kind) (item kind ns key value) answer after
       → said answer ≡ accepted next
       → Logged mark after next (items ++ item kind ns key value ∷ [])
-  tombstone-appended : {region after key : List ℕ} {used next ns : ℕ} {items : List Item} {answer : Appended}
+  tombstone-appended : {region after key : List ℕ} {first used next ns : ℕ} {items : List Item} {answer : Appended}
       → Logged mark region used items
-      → Appends mark region used true (item 2 ns key []) answer after
+      → Appends first mark region used true (item 2 ns key []) answer after
       → said answer ≡ accepted next
       → Logged mark after next (items ++ item 2 ns key [] ∷ [])
 

@@ -5,7 +5,7 @@
 ghost use mathlib.Core.Path.{_≡_};
 ghost use Prim.Native.Nat.{_+_, _^_, _<_, _≤_};
 ghost use lib.ListN.{length};
-ghost use Rattle.entry.specs.Words.{markFrom, wordOf, wordMark, wordNamespace, wordKind};
+ghost use Rattle.entry.specs.Words.{markFrom, seedOf, wordOf, wordMark, wordNamespace, wordKind};
 ghost use Rattle.entry.specs.Layout.{headLength, placed, sumPlace, entryAt, agrees, intact};
 
 // Version 1's seed: the mark at offset 0.
@@ -31,6 +31,16 @@ pub struct Entry {
     pub vplace: usize,
     pub kplace: usize,
     pub end: usize,
+}
+
+// The seed of a file's marks: version 2 adds the ordinal modulo 2^24 to version 1's.
+pub fn seed_of(version: u64, ordinal: u64) -> u32
+    ensures { λ r. ⌜ r ≡ seedOf version ordinal ⌝ }
+{
+    if version == answers::VERSION_2 {
+        return SEED + (ordinal % 0x100_0000) as u32;
+    }
+    SEED
 }
 
 // The mark of the line at p, under a seed.

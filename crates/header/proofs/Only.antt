@@ -1,7 +1,7 @@
 -- No second answer fits the header's contracts, and no other bytes.
 -- Assumes nothing.
 use Prim.Native.Nat.{ℕ}
-use mathlib.Core.Path.{_≡_, sym, ap, _∙_}
+use mathlib.Core.Path.{_≡_, sym, ap, ap₂, _∙_}
 use native.Mathlib.Omega.{arith}
 use Rattle.answers.specs.Numbers.{numberOf}
 use denote.Ref.{now}
@@ -9,7 +9,7 @@ use Rattle.answers.specs.OneAnswer.{OneAnswer, OneOutcome}
 use Rattle.answers.proofs.Cases.{same-number, verdict-once}
 use Rattle.header.specs.Header.{saidHeader}
 use Rattle.header.specs.declared.HeaderRead.{HeaderRead}
-use Rattle.header.specs.declared.HeaderRead.the-variants.{Ordinal, Refused}
+use Rattle.header.specs.declared.HeaderRead.the-variants.{Header, Refused}
 use Rattle.header.proofs.read_header.Kinds as read-kinds
 use Rattle.header.proofs.read_header.Reads as read
 use Rattle.header.proofs.write_header.Kinds as write-kinds
@@ -17,9 +17,11 @@ use Rattle.header.proofs.write_header.Reads as write
 
 -- the paper's words tell the answers apart
 pub said-once : (a b : HeaderRead) → saidHeader a ≡ saidHeader b → a ≡ b
-said-once (Ordinal m) (Ordinal n) e = cc
-said-once (Ordinal m) (Refused q) e = absurd (let z : _≡_ {A = ℕ} 0 1 = cc in omega arith)
-said-once (Refused r) (Ordinal n) e = absurd (let z : _≡_ {A = ℕ} 0 1 = cc in omega arith)
+said-once (Header v m) (Header w n) e =
+    let both : _≡_ {A = ℕ × ℕ} (v, m) (w, n) = cc in
+    ap₂ Header (ap (λ (x : ℕ × ℕ). x .0) both) (ap (λ (x : ℕ × ℕ). x .1) both)
+said-once (Header v m) (Refused q) e = absurd (let z : _≡_ {A = ℕ} 0 1 = cc in omega arith)
+said-once (Refused r) (Header w n) e = absurd (let z : _≡_ {A = ℕ} 0 1 = cc in omega arith)
 said-once (Refused r) (Refused q) e = let n : numberOf r ≡ numberOf q = cc in ap Refused (same-number r q n)
 
 pub read-header-only : OneAnswer 1 read-kinds.ps read-kinds.r read.Post

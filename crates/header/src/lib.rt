@@ -1,4 +1,5 @@
-// Document 01, the 4,096-byte file header: its reader and its writer.
+// Document 01, the 4,096-byte file header: its reader and its writer, for the two versions that
+// document 02's request 10 has.
 ghost use mathlib.Core.Path.{_≡_};
 ghost use Rattle.header.specs.Header.{saidHeader, readOf, Writes};
 use answers::Refusal;
@@ -9,14 +10,12 @@ pub const HEADER_LENGTH: usize = 4096;
 // The bytes 4C 4F 43 4B 44 41 54 31, the first lowest.
 const SIGNATURE: u64 = 0x3154_4144_4B43_4F4C;
 
-const VERSION: u64 = 1;
-
 pub enum HeaderRead {
-    Ordinal(u64),
+    Header { version: u64, ordinal: u64 },
     Refused(Refusal),
 }
 
-// The file's ordinal. Refusals 1, 2.
+// The file's version and ordinal. Refusals 1, 2.
 pub fn read_header(header: &[u8]) -> HeaderRead
     ensures { λ r. ⌜ saidHeader r ≡ readOf (now (header .entry)) ⌝ }
 {
@@ -26,21 +25,28 @@ pub fn read_header(header: &[u8]) -> HeaderRead
     if fields::read64(header, 0) != SIGNATURE {
         return HeaderRead::Refused(Refusal::WrongHeader);
     }
-    if fields::read32(header, 8) != VERSION {
+    let version = fields::read32(header, 8);
+    if !answers::is_version(version) {
         return HeaderRead::Refused(Refusal::WrongHeader);
     }
-    HeaderRead::Ordinal(fields::read64(header, 16))
+    HeaderRead::Header {
+        version: version,
+        ordinal: fields::read64(header, 16),
+    }
 }
 
-// Fills the first 4,096 bytes and touches no more. Refusal 1.
-pub fn write_header(lent: &mut [u8], ordinal: u64) -> Verdict
-    ensures { λ r. ⌜ Writes (now (lent .entry)) ordinal r (now (lent .exit)) ⌝ }
+// Fills the first 4,096 bytes and touches no more. Refusals 1, 2.
+pub fn write_header(lent: &mut [u8], version: u64, ordinal: u64) -> Verdict
+    ensures { λ r. ⌜ Writes (now (lent .entry)) version ordinal r (now (lent .exit)) ⌝ }
 {
     if lent.len() < HEADER_LENGTH {
         return Verdict::Refused(Refusal::HeaderTooShort);
     }
+    if !answers::is_version(version) {
+        return Verdict::Refused(Refusal::WrongHeader);
+    }
     fields::put64(lent, 0, SIGNATURE);
-    fields::put32(lent, 8, VERSION);
+    fields::put32(lent, 8, version);
     fields::put32(lent, 12, 0);
     fields::put64(lent, 16, ordinal);
     fields::fill(lent, 24, 4072, 0);

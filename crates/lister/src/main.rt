@@ -1,13 +1,16 @@
 // Document 01, "The lister": reads a card from standard input, header and data together, and writes
-// a line for each entry up to the used bound, then where the last of them ends.
+// a line for each entry up to the used bound, then where the last of them ends. The header's version
+// decides for the whole card (document 02, request 10).
 //
 // The heading is written once the header is accepted, so that after 1, 2 or 3 the `refused` line is
 // the only one. A card with a header and no entry has the heading and `end 0`.
 ghost use mathlib.Core.Path.{_≡_};
 ghost use Prim.Native.Nat.{_≤_};
 ghost use lib.ListN.{length};
+ghost use mathlib.Core.Bool.{true};
 ghost use Rattle.answers.specs.Limits.{largestRegion};
-ghost use Rattle.entry.specs.Words.{version1};
+ghost use Rattle.answers.specs.Versions.{isVersion};
+ghost use Rattle.entry.specs.Words.{markOf};
 ghost use Rattle.tail.specs.Tail.{saidDurable, durableOf};
 use answers::Refusal;
 use entry::Entry;
@@ -73,13 +76,13 @@ fn write_end(end: DurableEnd) {
 
 // A line for each entry. One walk serves for the lines and for the end: what it answers is proved to
 // be what `tail::durable_end` answers, and each turn starts at a later offset, so the loop ends.
-fn list_entries(region: &[u8], bound: usize) -> DurableEnd
-    requires { ⌜ (length (now region) ≤ largestRegion) × (bound ≤ length (now region)) ⌝ }
-    ensures { λ r. ⌜ saidDurable r ≡ durableOf version1 (now (region .entry)) bound ⌝ }
+fn list_entries(region: &[u8], version: u64, ordinal: u64, bound: usize) -> DurableEnd
+    requires { ⌜ (length (now region) ≤ largestRegion) × (bound ≤ length (now region)) × (isVersion version ≡ true) ⌝ }
+    ensures { λ r. ⌜ saidDurable r ≡ durableOf (markOf version ordinal) (now (region .entry)) bound ⌝ }
 {
     let mut from = 0;
     loop {
-        let walked = scan::walk(region, bound, from);
+        let walked = scan::walk(region, version, ordinal, bound, from);
         match walked {
             Walked::Found(e) => {
                 write_entry(e);
@@ -98,14 +101,14 @@ fn list_entries(region: &[u8], bound: usize) -> DurableEnd
     }
 }
 
-fn list_data(region: &[u8])
-    requires { ⌜ length (now region) ≤ 65536 ⌝ }
+fn list_data(region: &[u8], version: u64, ordinal: u64)
+    requires { ⌜ (length (now region) ≤ 65536) × (isVersion version ≡ true) ⌝ }
 {
     let used = tail::used_bound(region);
     match used {
         UsedBound::Bound(bound) => {
             write(b"offset type ns klen vlen\n");
-            write_end(list_entries(region, bound));
+            write_end(list_entries(region, version, ordinal, bound));
         }
         UsedBound::Refused(refusal) => {
             write_end(DurableEnd::Refused(refusal));
@@ -118,7 +121,9 @@ fn list_card(card: &[u8])
 {
     let read = header::read_header(card);
     match read {
-        HeaderRead::Ordinal(_) => list_data(&card[header::HEADER_LENGTH..]),
+        HeaderRead::Header { version, ordinal } => {
+            list_data(&card[header::HEADER_LENGTH..], version, ordinal)
+        }
         HeaderRead::Refused(refusal) => write_end(DurableEnd::Refused(refusal)),
     }
 }

@@ -5,14 +5,15 @@ use Prim.Native.Nat.{ℕ}
 use mathlib.Core.List.{List, [], _∷_}
 use mathlib.Core.Path.{_≡_}
 use mathlib.Core.Bool.{Bool}
-use Rattle.answers.specs.Answers.{Said, accepted, refused, afterwards, numberSaid, valueOut}
+use Rattle.answers.specs.Answers.{Said, accepted, refused, unlessRefused, afterwards, numberSaid, valueOut}
+use Rattle.answers.specs.Versions.{versionRefusal}
 use Rattle.fields.specs.Runs.{over}
 use Rattle.entry.specs.declared.Entry.{Entry}
-use Rattle.entry.specs.Words.{version1}
+use Rattle.entry.specs.Words.{markOf}
 use Rattle.append.specs.Bytes.{Item, encoded}
 use Rattle.append.specs.Append.{appendOf}
 use Rattle.replay.specs.Start.{Started, file, nothing}
-use Rattle.scan.specs.Walk.{Step, found, ended, walkOf}
+use Rattle.scan.specs.Walk.{Step, found, ended, walkIn}
 
 -- "(10 also its place)": the place that goes with the refusal, or what stood there
 abbrev pub placeOut : {A : Type 0} → Said A → ℕ → ℕ
@@ -50,15 +51,19 @@ startFound (accepted (file place)) old = 1
 startFound (accepted nothing) old = 0
 startFound (refused n values) old = old
 
+-- what either append answers in a file of this version
+abbrev pub appendIn : (version : ℕ) → List ℕ → ℕ → Bool → Item → Said ℕ
+appendIn version region used allowed i = unlessRefused (versionRefusal version) (appendOf region used allowed i)
+
 -- both appends: the number, the region and the new used count
-pub record AppendOut (region : List ℕ) (used : ℕ) (allowed : Bool) (i : Item) (r : ℕ) (after : List ℕ) (old next : ℕ) : Type 0 where
-  pub says : r ≡ numberSaid (appendOf region used allowed i)
-  pub leaves : after ≡ afterwards (appendOf region used allowed i) region (over region used (encoded (version1 used) i))
-  pub tells : next ≡ valueOut (appendOf region used allowed i) old
+pub record AppendOut (version ordinal : ℕ) (region : List ℕ) (used : ℕ) (allowed : Bool) (i : Item) (r : ℕ) (after : List ℕ) (old next : ℕ) : Type 0 where
+  pub says : r ≡ numberSaid (appendIn version region used allowed i)
+  pub leaves : after ≡ afterwards (appendIn version region used allowed i) region (over region used (encoded (markOf version ordinal used) i))
+  pub tells : next ≡ valueOut (appendIn version region used allowed i) old
 
 -- the walk: the number, the entry and whether there is one, and the place that goes with 10
-pub record WalkOut (region : List ℕ) (bound offset r : ℕ) (old entry : List ℕ) (oldFound found oldPlace place : ℕ) : Type 0 where
-  pub says : r ≡ numberSaid (walkOf version1 region bound offset)
-  pub tells : entry ≡ walkedOut (walkOf version1 region bound offset) old
-  pub finds : found ≡ foundOut (walkOf version1 region bound offset) oldFound
-  pub places : place ≡ placeOut (walkOf version1 region bound offset) oldPlace
+pub record WalkOut (version ordinal : ℕ) (region : List ℕ) (bound offset r : ℕ) (old entry : List ℕ) (oldFound found oldPlace place : ℕ) : Type 0 where
+  pub says : r ≡ numberSaid (walkIn version ordinal region bound offset)
+  pub tells : entry ≡ walkedOut (walkIn version ordinal region bound offset) old
+  pub finds : found ≡ foundOut (walkIn version ordinal region bound offset) oldFound
+  pub places : place ≡ placeOut (walkIn version ordinal region bound offset) oldPlace

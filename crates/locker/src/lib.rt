@@ -11,12 +11,11 @@ ghost use Rattle.answers.specs.Answers.{afterwards, numberSaid, valueOut};
 ghost use Rattle.fields.specs.Runs.{over};
 ghost use Rattle.checksum.specs.Catalogue.{crc16, crcFrom};
 ghost use Rattle.header.specs.Header.{readOf as headerRead, writeOf, headerOf};
-ghost use Rattle.entry.specs.Words.{version1};
-ghost use Rattle.read.specs.Reading.{readOf};
+ghost use Rattle.read.specs.Reading.{readIn};
 ghost use Rattle.append.specs.Bytes.{item};
 ghost use Rattle.append.specs.Append.{dataKind};
 ghost use Rattle.scan.specs.Parts.{partOf, partStart};
-ghost use Rattle.tail.specs.Tail.{usedOf, durableOf};
+ghost use Rattle.tail.specs.Tail.{usedOf, durableIn};
 ghost use Rattle.replay.specs.Limits.{dataLimits, tombstoneLimits};
 ghost use Rattle.replay.specs.Start.{startOf};
 ghost use Rattle.locker.specs.Outs.{startOut, startFound, placeOut, eight, entryOut, AppendOut, WalkOut};
@@ -56,12 +55,16 @@ pub extern "C" fn locker_update(state: u16, bytes: &[u8]) -> u16
 }
 
 #[no_mangle]
-pub extern "C" fn locker_read_header(header: &[u8], ordinal: &mut u64) -> u32
-    ensures { λ r. ⌜ (r ≡ numberSaid (headerRead (now (header .entry)))) × (now (ordinal .exit) ≡ valueOut (headerRead (now (header .entry))) (now (ordinal .entry))) ⌝ }
+pub extern "C" fn locker_read_header(header: &[u8], version: &mut u64, ordinal: &mut u64) -> u32
+    ensures { λ r. ⌜ (r ≡ numberSaid (headerRead (now (header .entry)))) × ((now (version .exit), now (ordinal .exit)) ≡ valueOut (headerRead (now (header .entry))) (now (version .entry), now (ordinal .entry))) ⌝ }
 {
     let answer = header::read_header(header);
     match answer {
-        HeaderRead::Ordinal(n) => {
+        HeaderRead::Header {
+            version: v,
+            ordinal: n,
+        } => {
+            *version = v;
             *ordinal = n;
             0
         }
@@ -70,10 +73,10 @@ pub extern "C" fn locker_read_header(header: &[u8], ordinal: &mut u64) -> u32
 }
 
 #[no_mangle]
-pub extern "C" fn locker_write_header(lent: &mut [u8], ordinal: u64) -> u32
-    ensures { λ r. ⌜ (r ≡ numberSaid (writeOf (now (lent .entry)))) × (now (lent .exit) ≡ afterwards (writeOf (now (lent .entry))) (now (lent .entry)) (over (now (lent .entry)) 0 (headerOf ordinal))) ⌝ }
+pub extern "C" fn locker_write_header(lent: &mut [u8], version: u64, ordinal: u64) -> u32
+    ensures { λ r. ⌜ (r ≡ numberSaid (writeOf (now (lent .entry)) version)) × (now (lent .exit) ≡ afterwards (writeOf (now (lent .entry)) version) (now (lent .entry)) (over (now (lent .entry)) 0 (headerOf version ordinal))) ⌝ }
 {
-    let verdict = header::write_header(lent, ordinal);
+    let verdict = header::write_header(lent, version, ordinal);
     answers::verdict_number(verdict)
 }
 
@@ -91,10 +94,17 @@ fn eight(e: Entry) -> [u64; 8]
 }
 
 #[no_mangle]
-pub extern "C" fn locker_read_at(region: &[u8], p: usize, hint: usize, entry: &mut [u64; 8]) -> u32
-    ensures { λ r. ⌜ (r ≡ numberSaid (readOf version1 (now (region .entry)) p hint)) × (now (entry .exit) ≡ entryOut (readOf version1 (now (region .entry)) p hint) (now (entry .entry))) ⌝ }
+pub extern "C" fn locker_read_at(
+    region: &[u8],
+    version: u64,
+    ordinal: u64,
+    p: usize,
+    hint: usize,
+    entry: &mut [u64; 8],
+) -> u32
+    ensures { λ r. ⌜ (r ≡ numberSaid (readIn version ordinal (now (region .entry)) p hint)) × (now (entry .exit) ≡ entryOut (readIn version ordinal (now (region .entry)) p hint) (now (entry .entry))) ⌝ }
 {
-    let answer = read::read_at(region, p, hint);
+    let answer = read::read_at(region, version, ordinal, p, hint);
     match answer {
         Reading::Data(e) => {
             *entry = eight(e);
@@ -107,6 +117,8 @@ pub extern "C" fn locker_read_at(region: &[u8], p: usize, hint: usize, entry: &m
 #[no_mangle]
 pub extern "C" fn locker_append_data(
     region: &mut [u8],
+    version: u64,
+    ordinal: u64,
     used: usize,
     kind: u64,
     ns: u64,
@@ -114,9 +126,9 @@ pub extern "C" fn locker_append_data(
     value: &[u8],
     next: &mut u64,
 ) -> u32
-    ensures { λ r. ⌜ AppendOut (now (region .entry)) used (dataKind kind) (item kind ns (now (key .entry)) (now (value .entry))) r (now (region .exit)) (now (next .entry)) (now (next .exit)) ⌝ }
+    ensures { λ r. ⌜ AppendOut version ordinal (now (region .entry)) used (dataKind kind) (item kind ns (now (key .entry)) (now (value .entry))) r (now (region .exit)) (now (next .entry)) (now (next .exit)) ⌝ }
 {
-    let answer = append::append_data(region, used, kind, ns, key, value);
+    let answer = append::append_data(region, version, ordinal, used, kind, ns, key, value);
     match answer {
         Appended::Used(n) => {
             *next = n as u64;
@@ -129,14 +141,16 @@ pub extern "C" fn locker_append_data(
 #[no_mangle]
 pub extern "C" fn locker_append_tombstone(
     region: &mut [u8],
+    version: u64,
+    ordinal: u64,
     used: usize,
     ns: u64,
     key: &[u8],
     next: &mut u64,
 ) -> u32
-    ensures { λ r. ⌜ AppendOut (now (region .entry)) used true (item 2 ns (now (key .entry)) []) r (now (region .exit)) (now (next .entry)) (now (next .exit)) ⌝ }
+    ensures { λ r. ⌜ AppendOut version ordinal (now (region .entry)) used true (item 2 ns (now (key .entry)) []) r (now (region .exit)) (now (next .entry)) (now (next .exit)) ⌝ }
 {
-    let answer = append::append_tombstone(region, used, ns, key);
+    let answer = append::append_tombstone(region, version, ordinal, used, ns, key);
     match answer {
         Appended::Used(n) => {
             *next = n as u64;
@@ -150,15 +164,17 @@ pub extern "C" fn locker_append_tombstone(
 #[no_mangle]
 pub extern "C" fn locker_walk(
     region: &[u8],
+    version: u64,
+    ordinal: u64,
     bound: usize,
     offset: usize,
     entry: &mut [u64; 8],
     found: &mut u64,
     place: &mut u64,
 ) -> u32
-    ensures { λ r. ⌜ WalkOut (now (region .entry)) bound offset r (now (entry .entry)) (now (entry .exit)) (now (found .entry)) (now (found .exit)) (now (place .entry)) (now (place .exit)) ⌝ }
+    ensures { λ r. ⌜ WalkOut version ordinal (now (region .entry)) bound offset r (now (entry .entry)) (now (entry .exit)) (now (found .entry)) (now (found .exit)) (now (place .entry)) (now (place .exit)) ⌝ }
 {
-    let answer = scan::walk(region, bound, offset);
+    let answer = scan::walk(region, version, ordinal, bound, offset);
     match answer {
         Walked::Found(e) => {
             *entry = eight(e);
@@ -212,13 +228,15 @@ pub extern "C" fn locker_used_bound(region: &[u8], bound: &mut u64) -> u32
 #[no_mangle]
 pub extern "C" fn locker_durable_end(
     region: &[u8],
+    version: u64,
+    ordinal: u64,
     bound: usize,
     end: &mut u64,
     place: &mut u64,
 ) -> u32
-    ensures { λ r. ⌜ (r ≡ numberSaid (durableOf version1 (now (region .entry)) bound)) × (now (end .exit) ≡ valueOut (durableOf version1 (now (region .entry)) bound) (now (end .entry))) × (now (place .exit) ≡ placeOut (durableOf version1 (now (region .entry)) bound) (now (place .entry))) ⌝ }
+    ensures { λ r. ⌜ (r ≡ numberSaid (durableIn version ordinal (now (region .entry)) bound)) × (now (end .exit) ≡ valueOut (durableIn version ordinal (now (region .entry)) bound) (now (end .entry))) × (now (place .exit) ≡ placeOut (durableIn version ordinal (now (region .entry)) bound) (now (place .entry))) ⌝ }
 {
-    let answer = tail::durable_end(region, bound);
+    let answer = tail::durable_end(region, version, ordinal, bound);
     match answer {
         DurableEnd::End(n) => {
             *end = n as u64;

@@ -1,4 +1,4 @@
--- Document 01, "Read at a place", with document 02's request 4, over any mark rule.
+-- Document 01, "Read at a place", with document 02's request 4, over any mark rule, and for a file of either version (request 10).
 -- Assumes nothing.
 use Prim.Native.Nat.{ℕ, _+_, _-_, _%_, min}
 use mathlib.Core.List.{List, [], _∷_}
@@ -8,8 +8,9 @@ use lib.Dec.{ltb, eqb}
 use Rattle.answers.specs.Numbers.{numberOf}
 use Rattle.answers.specs.Answers.{Said, accepted, refused, firstOf, unlessRefused}
 use Rattle.answers.specs.Limits.{largestRegion}
+use Rattle.answers.specs.Versions.{versionRefusal}
 use Rattle.fields.specs.Numbers.{field}
-use Rattle.entry.specs.Words.{wordMark, wordNamespace, wordKind}
+use Rattle.entry.specs.Words.{markOf, wordMark, wordNamespace, wordKind}
 use Rattle.entry.specs.Layout.{placed, agrees}
 use Rattle.entry.specs.declared.Entry.{Entry}
 use Rattle.read.specs.declared.Parsed.{Parsed}
@@ -70,6 +71,10 @@ unfoldable pub readOf : (ℕ → ℕ) → List ℕ → ℕ → ℕ → Said Entr
 readOf mark region p hint =
     unlessRefused (firstOf ((ltb largestRegion (length region), 3) ∷ (not (eqb (p % 16) 0), 5) ∷ []))
     (at p (parseOf (mark p) (viewOf region p hint)))
+
+-- "every call that needs a mark takes both", version and ordinal, and 2 comes "before all others"
+abbrev pub readIn : (version ordinal : ℕ) → List ℕ → ℕ → ℕ → Said Entry
+readIn version ordinal region p hint = unlessRefused (versionRefusal version) (readOf (markOf version ordinal) region p hint)
 
 -- the answer in the paper's words
 abbrev pub said : Reading → Said Entry

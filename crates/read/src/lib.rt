@@ -1,9 +1,9 @@
 // Document 01, "Read at a place": the data entry at a place, of which a hint says how many bytes to
 // look at, with the type that was written (document 02, request 4). `read_at` is the public
-// operation; the seeded one takes the mark's seed.
+// operation, for a file of either version (request 10); the seeded one takes the mark's seed.
 ghost use mathlib.Core.Path.{_≡_};
-ghost use Rattle.entry.specs.Words.{markFrom, version1};
-ghost use Rattle.read.specs.Reading.{viewOf, parseOf, saidParsed, readOf, said};
+ghost use Rattle.entry.specs.Words.{markFrom};
+ghost use Rattle.read.specs.Reading.{viewOf, parseOf, saidParsed, readOf, readIn, said};
 use answers::Refusal;
 use entry::Entry;
 
@@ -76,9 +76,14 @@ pub fn seeded_read_at(region: &[u8], seed: u32, p: usize, hint: usize) -> Readin
     }
 }
 
-// The data entry at p, an insert or an update as its word says. Refusals 3, 5, then 6, 7, 6, 8, 9.
-pub fn read_at(region: &[u8], p: usize, hint: usize) -> Reading
-    ensures { λ r. ⌜ said r ≡ readOf version1 (now (region .entry)) p hint ⌝ }
+// The data entry at p, an insert or an update as its word says, in a file of this version and
+// ordinal. Refusals 2, 3, 5, then 6, 7, 6, 8, 9.
+pub fn read_at(region: &[u8], version: u64, ordinal: u64, p: usize, hint: usize) -> Reading
+    ensures { λ r. ⌜ said r ≡ readIn version ordinal (now (region .entry)) p hint ⌝ }
 {
-    seeded_read_at(region, entry::SEED, p, hint)
+    if !answers::is_version(version) {
+        return Reading::Refused(Refusal::WrongHeader);
+    }
+    let seed = entry::seed_of(version, ordinal);
+    seeded_read_at(region, seed, p, hint)
 }

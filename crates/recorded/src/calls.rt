@@ -23,9 +23,11 @@ pub struct Replayed {
 // How many bytes the numbers of a call take.
 pub fn numbers_length(operation: u64) -> usize {
     match operation {
-        3 | 9 | 16 | 21 => 8,
-        4 | 6 | 7 | 13 | 14 | 15 | 20 => 16,
-        5 | 12 | 19 => 24,
+        16 | 21 => 8,
+        3 | 13 | 14 | 15 | 20 => 16,
+        9 | 12 | 19 => 24,
+        4 | 6 | 7 => 32,
+        5 => 40,
         11 => 48,
         _ => 0,
     }
@@ -89,36 +91,42 @@ fn start_in_run(run: &[u8], from: u64) -> Said {
     start_file(run, &mut ordinals, from)
 }
 
-// The operations that write to what they are lent.
+// The operations that write to what they are lent. All have a version and an ordinal first.
 fn write(operation: u64, n: &[u8], region: &mut [u8], key: &[u8], value: &[u8]) -> Said {
-    let a = cursor::listed(n, 0);
-    let b = cursor::listed(n, 1);
+    let version = cursor::listed(n, 0);
+    let ordinal = cursor::listed(n, 1);
+    let used = cursor::listed(n, 2) as usize;
+    let c = cursor::listed(n, 3);
     match operation {
-        3 => said::verdict(header::write_header(region, a)),
+        3 => said::verdict(header::write_header(region, version, ordinal)),
         5 => said::appended(append::append_data(
             region,
-            a as usize,
-            b,
-            cursor::listed(n, 2),
+            version,
+            ordinal,
+            used,
+            c,
+            cursor::listed(n, 4),
             key,
             value,
         )),
-        _ => said::appended(append::append_tombstone(region, a as usize, b, key)),
+        _ => said::appended(append::append_tombstone(region, version, ordinal, used, c, key)),
     }
 }
 
-// The others.
+// The others. Those that look at marks have a version and an ordinal first.
 fn ask(operation: u64, n: &[u8], region: &[u8]) -> Said {
-    let a = cursor::listed(n, 0);
-    let b = cursor::listed(n, 1);
+    let version = cursor::listed(n, 0);
+    let ordinal = cursor::listed(n, 1);
+    let a = cursor::listed(n, 2) as usize;
+    let b = cursor::listed(n, 3) as usize;
     match operation {
         1 => said::one(checksum::hash(region) as u64),
         2 => said::header(header::read_header(region)),
-        4 => said::reading(read::read_at(region, a as usize, b as usize)),
-        7 => said::walked(scan::walk(region, a as usize, b as usize)),
+        4 => said::reading(read::read_at(region, version, ordinal, a, b)),
+        7 => said::walked(scan::walk(region, version, ordinal, a, b)),
         8 => said::used_bound(tail::used_bound(region)),
-        9 => said::durable_end(tail::durable_end(region, a as usize)),
-        _ => start_in_run(region, a),
+        9 => said::durable_end(tail::durable_end(region, version, ordinal, a)),
+        _ => start_in_run(region, cursor::listed(n, 0)),
     }
 }
 

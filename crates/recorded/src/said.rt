@@ -72,7 +72,7 @@ pub fn verdict(answer: Verdict) -> Said {
 
 pub fn header(answer: HeaderRead) -> Said {
     match answer {
-        HeaderRead::Ordinal(ordinal) => one(ordinal),
+        HeaderRead::Header { version, ordinal } => with(one(version), ordinal),
         HeaderRead::Refused(refusal) => refused(refusal),
     }
 }

@@ -1,4 +1,4 @@
--- Document 01, "The walk", over any mark rule.
+-- Document 01, "The walk", over any mark rule, and for a file of either version (document 02, request 10).
 -- Assumes nothing.
 use Prim.Native.Nat.{ℕ, zero, suc, _+_, _-_, _/_}
 use mathlib.Core.List.{List, [], _∷_}
@@ -8,8 +8,9 @@ use lib.Dec.{leb, ltb, eqb}
 use Rattle.answers.specs.Numbers.{numberOf}
 use Rattle.answers.specs.Answers.{Said, accepted, refused, firstOf, unlessRefused}
 use Rattle.answers.specs.Limits.{largestRegion}
+use Rattle.answers.specs.Versions.{versionRefusal}
 use Rattle.fields.specs.Numbers.{field, aligned}
-use Rattle.entry.specs.Words.{wordMark, wordKind}
+use Rattle.entry.specs.Words.{markOf, wordMark, wordKind}
 use Rattle.entry.specs.Layout.{entryAt, verifies}
 use Rattle.entry.specs.declared.Entry.{Entry}
 use Rattle.scan.specs.declared.Walked.{Walked}
@@ -71,3 +72,7 @@ module _ (mark : ℕ → ℕ) (s : List ℕ) where
   unfoldable pub walkOf : ℕ → ℕ → Said Step
   walkOf bound offset =
       unlessRefused (firstOf ((ltb largestRegion (length s), 3) ∷ (ltb (length s) bound, 4) ∷ [])) (walk bound offset)
+
+-- "every call that needs a mark takes both", version and ordinal, and 2 comes "before all others"
+abbrev pub walkIn : (version ordinal : ℕ) → List ℕ → ℕ → ℕ → Said Step
+walkIn version ordinal s bound offset = unlessRefused (versionRefusal version) (walkOf (markOf version ordinal) s bound offset)

@@ -1,11 +1,11 @@
 // Document 01, "The walk": the next verified entry from an offset on, and its key and value as
-// parts of the lent region. `walk`, `key_of` and `value_of` are the public operations; the seeded
-// walk takes the mark's seed.
+// parts of the lent region. `walk`, `key_of` and `value_of` are the public operations, the walk for
+// a file of either version (document 02, request 10); the seeded walk takes the mark's seed.
 ghost use mathlib.Core.Path.{_≡_};
 ghost use Prim.Native.Nat.{_+_};
 ghost use denote.Ref.{ptr};
-ghost use Rattle.entry.specs.Words.{markFrom, version1};
-ghost use Rattle.scan.specs.Walk.{said, walkOf};
+ghost use Rattle.entry.specs.Words.{markFrom};
+ghost use Rattle.scan.specs.Walk.{said, walkOf, walkIn};
 ghost use Rattle.scan.specs.Parts.{partOf, partStart};
 use answers::Refusal;
 use entry::Entry;
@@ -56,11 +56,16 @@ pub fn seeded_walk(region: &[u8], seed: u32, bound: usize, offset: usize) -> Wal
     }
 }
 
-// The next verified entry from `offset` on, up to `bound`. Refusals 3, 4, then 10 with its place.
-pub fn walk(region: &[u8], bound: usize, offset: usize) -> Walked
-    ensures { λ r. ⌜ said r ≡ walkOf version1 (now (region .entry)) bound offset ⌝ }
+// The next verified entry from `offset` on, up to `bound`, in a file of this version and ordinal.
+// Refusals 2, 3, 4, then 10 with its place.
+pub fn walk(region: &[u8], version: u64, ordinal: u64, bound: usize, offset: usize) -> Walked
+    ensures { λ r. ⌜ said r ≡ walkIn version ordinal (now (region .entry)) bound offset ⌝ }
 {
-    seeded_walk(region, entry::SEED, bound, offset)
+    if !answers::is_version(version) {
+        return Walked::Refused(Refusal::WrongHeader);
+    }
+    let seed = entry::seed_of(version, ordinal);
+    seeded_walk(region, seed, bound, offset)
 }
 
 // len bytes of the region from `at` on, or an empty part where they run past its end.

@@ -1,4 +1,4 @@
--- Document 01, "Used bound" and "Durable end".
+-- Document 01, "Used bound" and "Durable end", which is for a file of either version (document 02, request 10).
 -- Assumes nothing.
 use Prim.Native.Nat.{ℕ, zero, suc, min}
 use mathlib.Core.List.{List, [], _∷_}
@@ -7,7 +7,9 @@ use lib.Dec.{ltb, eqb}
 use Rattle.answers.specs.Numbers.{numberOf}
 use Rattle.answers.specs.Answers.{Said, accepted, refused, pickNumber, firstOf, unlessRefused}
 use Rattle.answers.specs.Limits.{largestRegion}
+use Rattle.answers.specs.Versions.{versionRefusal}
 use Rattle.fields.specs.Numbers.{aligned}
+use Rattle.entry.specs.Words.{markOf}
 use Rattle.scan.specs.Walk.{Step}
 use Rattle.scan.specs.Listing.{Listed, list, lastEnd}
 use Rattle.tail.specs.declared.UsedBound.{UsedBound}
@@ -46,6 +48,10 @@ durable none listed = unlessStopped (listed .stop) (aligned (lastEnd none (liste
 unfoldable pub durableOf : (ℕ → ℕ) → List ℕ → ℕ → Said ℕ
 durableOf mark s bound =
     unlessRefused (firstOf ((ltb largestRegion (length s), 3) ∷ (ltb (length s) bound, 4) ∷ [])) (durable 0 (list mark s bound 0))
+
+-- "every call that needs a mark takes both", version and ordinal, and 2 comes "before all others"
+abbrev pub durableIn : (version ordinal : ℕ) → List ℕ → ℕ → Said ℕ
+durableIn version ordinal s bound = unlessRefused (versionRefusal version) (durableOf (markOf version ordinal) s bound)
 
 abbrev pub saidDurable : DurableEnd → Said ℕ
 saidDurable (end-said.End n) = accepted n

@@ -1,8 +1,9 @@
 // Document 01, the region's tail: how far it is used, and where the last verified entry ends.
-// `used_bound` and `durable_end` are the public operations; the seeded one takes the mark's seed.
+// `used_bound` and `durable_end` are the public operations, the second for a file of either version
+// (document 02, request 10); the seeded one takes the mark's seed.
 ghost use mathlib.Core.Path.{_≡_};
-ghost use Rattle.entry.specs.Words.{markFrom, version1};
-ghost use Rattle.tail.specs.Tail.{saidUsed, usedOf, saidDurable, durableOf};
+ghost use Rattle.entry.specs.Words.{markFrom};
+ghost use Rattle.tail.specs.Tail.{saidUsed, usedOf, saidDurable, durableOf, durableIn};
 use answers::Refusal;
 use scan::Walked;
 
@@ -68,9 +69,14 @@ pub fn seeded_durable_end(region: &[u8], seed: u32, bound: usize) -> DurableEnd
     }
 }
 
-// The last verified entry's end, rounded up to a line. Refusals 3, 4, then 10 with its place.
-pub fn durable_end(region: &[u8], bound: usize) -> DurableEnd
-    ensures { λ r. ⌜ saidDurable r ≡ durableOf version1 (now (region .entry)) bound ⌝ }
+// The last verified entry's end, rounded up to a line, in a file of this version and ordinal.
+// Refusals 2, 3, 4, then 10 with its place.
+pub fn durable_end(region: &[u8], version: u64, ordinal: u64, bound: usize) -> DurableEnd
+    ensures { λ r. ⌜ saidDurable r ≡ durableIn version ordinal (now (region .entry)) bound ⌝ }
 {
-    seeded_durable_end(region, entry::SEED, bound)
+    if !answers::is_version(version) {
+        return DurableEnd::Refused(Refusal::WrongHeader);
+    }
+    let seed = entry::seed_of(version, ordinal);
+    seeded_durable_end(region, seed, bound)
 }

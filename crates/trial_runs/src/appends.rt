@@ -3,6 +3,7 @@
 // leave the region as found too.
 use crate::judge;
 use crate::judge::Said;
+use crate::sample;
 use append::Appended;
 use scan::Walked;
 
@@ -34,7 +35,16 @@ pub fn data(
     begin(region.len(), used, ns, key.len());
     judge::number(b", value ", value.len() as u64);
     let before = checksum::hash(region);
-    let answer = append::append_data(region, used, kind, ns, key, value);
+    let answer = append::append_data(
+        region,
+        sample::VERSION,
+        sample::ORDINAL,
+        used,
+        kind,
+        ns,
+        key,
+        value,
+    );
     let as_found = before == checksum::hash(region);
     judge::answer(said_of(answer, as_found), expected);
 }
@@ -43,7 +53,7 @@ pub fn tombstone(region: &mut [u8], used: usize, ns: u64, key: &[u8], expected: 
     judge::write(b"  append tombstone");
     begin(region.len(), used, ns, key.len());
     let before = checksum::hash(region);
-    let answer = append::append_tombstone(region, used, ns, key);
+    let answer = append::append_tombstone(region, sample::VERSION, sample::ORDINAL, used, ns, key);
     let as_found = before == checksum::hash(region);
     judge::answer(said_of(answer, as_found), expected);
 }
@@ -132,7 +142,7 @@ fn lengths() {
 // rounded, so for an entry at 0 it is the length.
 fn largest(region: &mut [u8]) {
     of_lengths(region, 0, 0, 1, 4096, 32768, Said::Number(36880));
-    let walked = scan::walk(region, region.len(), 0);
+    let walked = scan::walk(region, sample::VERSION, sample::ORDINAL, region.len(), 0);
     judge::write(b"  its length");
     match walked {
         Walked::Found(e) => judge::answer(Said::Number(e.end as u64), Said::Number(36874)),

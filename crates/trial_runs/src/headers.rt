@@ -1,13 +1,17 @@
-// The header's reader, refusals 1 and 2, and its writer, refusal 1.
+// The header's reader and its writer, refusals 1 and 2. That the reader answers the version too, and
+// that there are two of them, is document 02's request 10.
 use crate::judge;
 use crate::judge::Said;
+use crate::sample;
 use answers::Verdict;
 use header::HeaderRead;
 
 fn answer_of_reader(lent: &[u8], expected: Said) {
     let answer = header::read_header(lent);
     match answer {
-        HeaderRead::Ordinal(n) => judge::answer(Said::Number(n), expected),
+        HeaderRead::Header { version, ordinal } => {
+            judge::answer_by(Said::Header(version, ordinal), expected, b"request 10")
+        }
         HeaderRead::Refused(refusal) => judge::answer(judge::refused(refusal), expected),
     }
 }
@@ -17,22 +21,25 @@ pub fn read(lent: &[u8], expected: Said) {
     answer_of_reader(lent, expected);
 }
 
-pub fn write(lent: &mut [u8], expected: Said) {
-    judge::number(b"  write header, bytes ", lent.len() as u64);
+// A writer's verdict, and whether a refusal left the bytes as found.
+pub fn verdict_of(lent: &mut [u8], version: u64) -> Said {
     let before = checksum::hash(lent);
-    let verdict = header::write_header(lent, 7);
+    let verdict = header::write_header(lent, version, sample::ORDINAL);
     let as_found = before == checksum::hash(lent);
     match verdict {
-        Verdict::Accepted => judge::answer(Said::Accepted, expected),
-        Verdict::Refused(refusal) => {
-            judge::answer(judge::refused_leaving(refusal, as_found), expected)
-        }
+        Verdict::Accepted => Said::Accepted,
+        Verdict::Refused(refusal) => judge::refused_leaving(refusal, as_found),
     }
+}
+
+pub fn write(lent: &mut [u8], expected: Said) {
+    judge::number(b"  write header, bytes ", lent.len() as u64);
+    judge::answer(verdict_of(lent, sample::VERSION), expected);
 }
 
 // The first n bytes of a header and a byte behind it.
 fn read_start(lent: &mut [u8], n: usize, expected: Said) {
-    header::write_header(lent, 7);
+    header::write_header(lent, sample::VERSION, sample::ORDINAL);
     read(judge::start_of(lent, n), expected);
 }
 
@@ -43,7 +50,7 @@ fn cut(n: usize, expected: Said) {
 
 // A header in which one byte is changed.
 fn read_changed(lent: &mut [u8], at: usize, byte: u8, expected: Said) {
-    header::write_header(lent, 7);
+    header::write_header(lent, sample::VERSION, sample::ORDINAL);
     judge::put(lent, at, byte);
     answer_of_reader(lent, expected);
 }
@@ -59,8 +66,8 @@ fn lengths() {
     judge::write(b"header\n");
     cut(0, Said::Refused(1));
     cut(4095, Said::Refused(1));
-    cut(4096, Said::Number(7));
-    cut(4097, Said::Number(7));
+    cut(4096, Said::Header(1, 7));
+    cut(4097, Said::Header(1, 7));
 }
 
 // The first and the last byte of the signature; the version, which is 0x00000101 with byte 9 set; and
@@ -73,12 +80,13 @@ fn fields() {
     changed(0, 0x4d, Said::Refused(2));
     changed(7, 0x30, Said::Refused(2));
     changed(8, 0, Said::Refused(2));
-    changed(8, 2, Said::Refused(2));
+    changed(8, 2, Said::Header(2, 7));
+    changed(8, 3, Said::Refused(2));
     changed(9, 1, Said::Refused(2));
     changed(11, 1, Said::Refused(2));
-    changed(12, 1, Said::Number(7));
-    changed(4095, 1, Said::Number(7));
-    changed(23, 1, Said::Number(72057594037927943));
+    changed(12, 1, Said::Header(1, 7));
+    changed(4095, 1, Said::Header(1, 7));
+    changed(23, 1, Said::Header(1, 72057594037927943));
 }
 
 // "The writer fills the first 4,096 lent bytes and touches no more."

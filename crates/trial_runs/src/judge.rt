@@ -8,6 +8,8 @@ use libc::STDOUT_FILENO;
 pub enum Said {
     Accepted,
     Number(u64),
+    // What the header's reader answers: version and ordinal.
+    Header(u64, u64),
     End,
     Refused(u64),
     // Refusal 10 with its place.
@@ -44,6 +46,10 @@ fn write_said(said: Said) {
     match said {
         Said::Accepted => write(b"accepted"),
         Said::Number(n) => number(b"", n),
+        Said::Header(version, ordinal) => {
+            number(b"version ", version);
+            number(b", ordinal ", ordinal);
+        }
         Said::End => write(b"End"),
         Said::Refused(n) => number(b"refused ", n),
         Said::UnknownAt(p) => number(b"refused 10 at ", p),
@@ -53,7 +59,8 @@ fn write_said(said: Said) {
     }
 }
 
-// Which case an answer is, and its number: together they tell any two answers apart.
+// Which case an answer is, its number, and a header's version: together they tell any two answers
+// apart.
 fn case_of(said: Said) -> u64 {
     match said {
         Said::Accepted => 0,
@@ -64,15 +71,24 @@ fn case_of(said: Said) -> u64 {
         Said::RefusedChanged(_) => 5,
         Said::Yes => 6,
         Said::No => 7,
+        Said::Header(_, _) => 8,
     }
 }
 
 fn number_of(said: Said) -> u64 {
     match said {
         Said::Number(n) => n,
+        Said::Header(_, ordinal) => ordinal,
         Said::Refused(n) => n,
         Said::UnknownAt(p) => p,
         Said::RefusedChanged(n) => n,
+        _ => 0,
+    }
+}
+
+fn version_of(said: Said) -> u64 {
+    match said {
+        Said::Header(version, _) => version,
         _ => 0,
     }
 }
@@ -81,15 +97,20 @@ fn same_said(a: Said, b: Said) -> bool {
     if case_of(a) != case_of(b) {
         return false;
     }
+    if version_of(a) != version_of(b) {
+        return false;
+    }
     number_of(a) == number_of(b)
 }
 
-// The end of a trial's line.
-pub fn answer(answered: Said, expected: Said) {
+// The end of a trial's line, and by which document the answer has to be that one.
+pub fn answer_by(answered: Said, expected: Said, document: &[u8]) {
     write(b": ");
     write_said(answered);
     if same_said(answered, expected) {
-        write(b", as document 01\n");
+        write(b", as ");
+        write(document);
+        write(b"\n");
     } else {
         write(b", WRONG: ");
         write_said(expected);
@@ -97,13 +118,21 @@ pub fn answer(answered: Said, expected: Said) {
     }
 }
 
+pub fn answer(answered: Said, expected: Said) {
+    answer_by(answered, expected, b"document 01");
+}
+
 // A question whose answer is to be yes.
-pub fn holds(is_so: bool) {
+pub fn holds_by(is_so: bool, document: &[u8]) {
     if is_so {
-        answer(Said::Yes, Said::Yes);
+        answer_by(Said::Yes, Said::Yes, document);
     } else {
-        answer(Said::No, Said::Yes);
+        answer_by(Said::No, Said::Yes, document);
     }
+}
+
+pub fn holds(is_so: bool) {
+    holds_by(is_so, b"document 01");
 }
 
 // The bytes of a key or a value, which are text here.

@@ -11,6 +11,7 @@ mod judge;
 mod reads;
 mod sample;
 mod thirteen;
+mod versions;
 mod walks;
 
 fn main() {
@@ -19,4 +20,5 @@ fn main() {
     walks::trials();
     reads::trials();
     thirteen::trials();
+    versions::trials();
 }

@@ -15,7 +15,7 @@ fn begin(length: usize, p: usize, hint: usize) {
 // A read that is refused.
 pub fn none(region: &[u8], p: usize, hint: usize, expected: Said) {
     begin(region.len(), p, hint);
-    let reading = read::read_at(region, p, hint);
+    let reading = read::read_at(region, sample::VERSION, sample::ORDINAL, p, hint);
     match reading {
         Reading::Data(_) => judge::another_kind(),
         Reading::Refused(refusal) => judge::answer(judge::refused(refusal), expected),
@@ -25,7 +25,7 @@ pub fn none(region: &[u8], p: usize, hint: usize, expected: Said) {
 // A read that finds a data entry.
 fn one_by(region: &[u8], p: usize, hint: usize, expected: Entry, document: &[u8]) {
     begin(region.len(), p, hint);
-    let reading = read::read_at(region, p, hint);
+    let reading = read::read_at(region, sample::VERSION, sample::ORDINAL, p, hint);
     match reading {
         Reading::Data(e) => judge::found_by(e, expected, document),
         Reading::Refused(_) => judge::another_kind(),

@@ -4,6 +4,11 @@ ghost use mathlib.Core.Path.{_≡_};
 ghost use lib.ListN.{length};
 use entry::Entry;
 
+// Document 01's trials are of a version 1 file, whose ordinal no mark depends on.
+pub const VERSION: u64 = 1;
+
+pub const ORDINAL: u64 = 7;
+
 const THREE: [u8; 48] = [
     0xc0,
     0x17,
@@ -55,7 +60,60 @@ const THREE: [u8; 48] = [
     0xff,
 ];
 
-// The first of them without its filling.
+// The same three in a version 2 file of ordinal 7 (document 02, request 10): each mark is 7 more, and
+// the checksums are others, from the same source.
+pub const THREE_IN_VERSION_2: [u8; 48] = [
+    0xc7,
+    0x17,
+    0x5a,
+    0x01,
+    0x02,
+    0x00,
+    0x01,
+    0x00,
+    0x39,
+    0x41,
+    0x37,
+    0x02,
+    0xf5,
+    0xff,
+    0xff,
+    0xff,
+    0xc8,
+    0x17,
+    0x5a,
+    0x41,
+    0x02,
+    0x00,
+    0x02,
+    0x00,
+    0x31,
+    0x30,
+    0x41,
+    0x37,
+    0xd0,
+    0xb1,
+    0xff,
+    0xff,
+    0xc9,
+    0x17,
+    0x5a,
+    0x81,
+    0x02,
+    0x00,
+    0x41,
+    0x37,
+    0x6f,
+    0xa6,
+    0xff,
+    0xff,
+    0xff,
+    0xff,
+    0xff,
+    0xff,
+];
+
+// The first of document 01's without its filling.
 pub const THIRTEEN: [u8; 13] = [
     0xc0,
     0x17,

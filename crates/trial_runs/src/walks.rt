@@ -15,7 +15,7 @@ fn begin(length: usize, bound: usize, from: usize) {
 // A walk that finds no entry.
 pub fn none(region: &[u8], bound: usize, from: usize, expected: Said) {
     begin(region.len(), bound, from);
-    let walked = scan::walk(region, bound, from);
+    let walked = scan::walk(region, sample::VERSION, sample::ORDINAL, bound, from);
     match walked {
         Walked::Found(_) => judge::another_kind(),
         Walked::End => judge::answer(Said::End, expected),
@@ -27,7 +27,7 @@ pub fn none(region: &[u8], bound: usize, from: usize, expected: Said) {
 // A walk that finds one.
 pub fn one(region: &[u8], bound: usize, from: usize, expected: Entry) {
     begin(region.len(), bound, from);
-    let walked = scan::walk(region, bound, from);
+    let walked = scan::walk(region, sample::VERSION, sample::ORDINAL, bound, from);
     match walked {
         Walked::Found(e) => judge::found(e, expected),
         _ => judge::another_kind(),
@@ -37,7 +37,7 @@ pub fn one(region: &[u8], bound: usize, from: usize, expected: Entry) {
 pub fn durable(region: &[u8], bound: usize, expected: Said) {
     judge::number(b"  durable end of ", region.len() as u64);
     judge::number(b" bytes, bound ", bound as u64);
-    let end = tail::durable_end(region, bound);
+    let end = tail::durable_end(region, sample::VERSION, sample::ORDINAL, bound);
     match end {
         DurableEnd::End(n) => judge::answer(Said::Number(n as u64), expected),
         DurableEnd::Refused(refusal) => judge::answer(judge::refused(refusal), expected),

@@ -10,6 +10,11 @@ use scan::Walked;
 use tail::DurableEnd;
 use tail::UsedBound;
 
+// Both sites' cards have files of version 1, whose ordinal no mark depends on.
+const VERSION: u64 = 1;
+
+const ORDINAL: u64 = 1;
+
 // Where the two rules stand: the end of the last entry, whether the old rule has stopped, the newest
 // entry under each rule, and whether the log is through.
 struct Progress {
@@ -37,7 +42,7 @@ fn place(n: usize) {
 
 // Logs a block and answers the new used count.
 fn log_block(region: &mut [u8], used: usize, first: &[u8]) -> usize {
-    let answer = append::append_data(region, used, 0, 1, b"block", first);
+    let answer = append::append_data(region, VERSION, ORDINAL, used, 0, 1, b"block", first);
     let Appended::Used(next) = answer else {
         write(b"refused\n");
         return used;
@@ -93,7 +98,7 @@ fn row(region: &[u8], e: Entry, stopped: bool) {
 // has something bad before it.
 fn step(region: &[u8], bound: usize, b: Progress) -> Progress {
     let from = b.from;
-    let walked = scan::walk(region, bound, from);
+    let walked = scan::walk(region, VERSION, ORDINAL, bound, from);
     let Walked::Found(e) = walked else {
         return through(b);
     };
@@ -165,7 +170,7 @@ fn compare(region: &[u8], last: &[u8]) {
     handed_out_twice(scan::value_of(region, old), last);
     write(b"               ");
     handed_out_twice(scan::value_of(region, new), last);
-    let answer = tail::durable_end(region, bound);
+    let answer = tail::durable_end(region, VERSION, ORDINAL, bound);
     if let DurableEnd::End(end) = answer {
         write(b"\ndurable end          ");
         io::print_decimal(STDOUT_FILENO, end as u64);

@@ -1,6 +1,7 @@
 //! What the text takes from `internal.rs`: document 01's values where it has them, else the commit's, and the commit's own
 //! functions and structs, cut out of its text by `build.rs`.
 use std::{
+    cell::Cell,
     fs::File,
     path::{Path, PathBuf},
 };
@@ -20,9 +21,24 @@ pub const PAGE_SIZE: usize = 4096;
 pub const READ_BUFFER_SIZE: usize = 128 * 1024;
 pub const SIZE_HINT_UNIT: usize = 512;
 
+/// Document 01: a mark is the line's number and this, modulo 2^24.
+const ADDED: u64 = 0x5a_17c0;
+
+thread_local! {
+    /// What is added in the file that is asked about.
+    static ADDED_HERE: Cell<u64> = const { Cell::new(ADDED) };
+}
+
+/// The marks of the calls from here on: document 01's, and for version 2 those of document 02's request 10, which adds
+/// the ordinal too. The text only asks for the mark at an offset, so all of it runs under either.
+pub fn under(version: u64, ordinal: u64) {
+    ADDED_HERE.set(ADDED + if version == 2 { ordinal % (1 << 24) } else { 0 });
+}
+
 /// Document 01: the mark at offset p is (p/16 + 0x5A17C0) mod 2^24.
 pub fn entry_magic_offset(file_offset: u64) -> u32 {
-    (((file_offset / FILE_OFFSET_ALIGNMENT) + 0x5a_17c0) % (1 << 24)) as u32
+    let added = if cfg!(feature = "versions") { ADDED_HERE.get() } else { ADDED };
+    (((file_offset / FILE_OFFSET_ALIGNMENT) + added) % (1 << 24)) as u32
 }
 
 /// Document 01 numbers namespaces from 0 to 63 and names none. The text only casts them.

@@ -18,5 +18,6 @@ mod data_file {
 pub use data_file::probes::{
     caught, create, open, read_header, show_other_panics, Buffer, File, Found, Opened, Slot, State, Tracker,
 };
+pub use internal::under;
 pub use recovery::{accepts_data, accepts_tombstone, start_file};
 pub use types::{Error, Failure};

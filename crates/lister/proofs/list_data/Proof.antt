@@ -10,7 +10,7 @@ use Rattle.lister.proofs.list_data.Tie as tie
 list-entries-requires : tie.Need-list-entries-requires
 list-entries-requires c κs =
     let z = c .before .before .before in
-    (search needs, used-within _ (sym (z .before .before .used-bound .ensures) ∙ ap saidUsed (z .used .given .1)))
+    (search needs, used-within _ (sym (z .before .before .used-bound .ensures) ∙ ap saidUsed (z .used .given .1)), z .before .before .before .before .pre .1)
 
 pub list-data-spec : {M : Type 1} → statement M
 list-data-spec =

@@ -7,11 +7,12 @@ use native.Mathlib.Omega.{arith}
 use borrow.Author.Needs.{needs}
 use lib.ListN.{length}
 use Rattle.answers.specs.Answers.{accepted}
+use Rattle.answers.proofs.Versions.{right-version}
 use Rattle.fields.specs.Numbers.{aligned}
 use Rattle.fields.proofs.Lines.{aligned-le}
-use Rattle.entry.specs.Words.{version1}
+use Rattle.entry.specs.Words.{markOf}
 use Rattle.entry.specs.declared.Entry.{Entry}
-use Rattle.scan.specs.Walk.{said}
+use Rattle.scan.specs.Walk.{said, walkOf}
 use Rattle.scan.specs.Listing.{grow, list}
 use Rattle.scan.specs.declared.Walked.{Walked}
 use Rattle.scan.proofs.Walks.{Stands}
@@ -22,25 +23,31 @@ use Rattle.lister.proofs.list_entries.Statement.{statement}
 use Rattle.lister.proofs.list_entries.Tie as tie
 
 abbrev Inv-loop : tie.InvT-loop
-Inv-loop region bound from₀ from = (from ≤ length region) × (durable from (list version1 region bound from) ≡ durableOf version1 region bound)
+Inv-loop region version ordinal bound from₀ from = (from ≤ length region) × (durable from (list (markOf version ordinal) region bound from) ≡ durableOf (markOf version ordinal) region bound)
 
 abbrev μ-loop : tie.MeasureT-loop
-μ-loop region bound from₀ from = bound - from
+μ-loop region version ordinal bound from₀ from = bound - from
+
+-- the walk's answer, whose version is one of the two
+walked : (w : tie.After-walk Inv-loop μ-loop) → let a = w .before .before .before .args in said (w .walk .result) ≡ walkOf (markOf (a .version) (a .ordinal)) (a .region .now) (a .bound) (w .before .loop .from)
+walked w = w .walk .ensures ∙ right-version (w .before .before .before .args .version) _ (w .before .before .before .pre .2)
 
 -- what is left to list decides the answer
-rest : (w : tie.After-walk Inv-loop μ-loop) (x : Walked) → w .walk .result ≡ x → let a = w .before .before .before .args in durable (w .before .loop .from) (grow (said x) (λ (e : Entry). list version1 (a .region .now) (a .bound) (e .end))) ≡ durableOf version1 (a .region .now) (a .bound)
+rest : (w : tie.After-walk Inv-loop μ-loop) (x : Walked) → w .walk .result ≡ x → let a = w .before .before .before .args in durable (w .before .loop .from) (grow (said x) (λ (e : Entry). list (markOf (a .version) (a .ordinal)) (a .region .now) (a .bound) (e .end))) ≡ durableOf (markOf (a .version) (a .ordinal)) (a .region .now) (a .bound)
 rest w x q =
     let z = w .before .before .before in
-    turn-rest version1 (z .args .region .now) (z .args .bound) (z .pre .0) (z .pre .1) (w .before .loop .from) (w .walk .result) (w .walk .ensures) x q ∙ w .before .loop .inv .1
+    turn-rest (markOf (z .args .version) (z .args .ordinal)) (z .args .region .now) (z .args .bound) (z .pre .0) (z .pre .1) (w .before .loop .from) (w .walk .result) (walked w) x q ∙ w .before .loop .inv .1
 
-found : (c : tie.After-walked Inv-loop μ-loop) → let w = c .before .before in let a = w .before .before .before .args in Stands version1 (a .region .now) (aligned (w .before .loop .from)) (a .bound + 15) (c .walked .given .0 .0)
+found : (c : tie.After-walked Inv-loop μ-loop) → let w = c .before .before in let a = w .before .before .before .args in Stands (markOf (a .version) (a .ordinal)) (a .region .now) (aligned (w .before .loop .from)) (a .bound + 15) (c .walked .given .0 .0)
 found c =
     let w = c .before .before in
     let z = w .before .before .before in
-    turn-found version1 (z .args .region .now) (z .args .bound) (z .pre .0) (z .pre .1) (w .before .loop .from) (w .walk .result) (w .walk .ensures) (c .walked .given .1)
+    turn-found (markOf (z .args .version) (z .args .ordinal)) (z .args .region .now) (z .args .bound) (z .pre .0) (z .pre .1) (w .before .loop .from) (w .walk .result) (walked w) (c .walked .given .1)
 
 loop-holds : tie.Need-loop-holds Inv-loop μ-loop
-loop-holds c = (search needs, sym (durable-accepted (c .before .args .region .now) (c .before .pre .0) version1 (c .before .args .bound) (c .before .pre .1)))
+loop-holds c =
+    let z = c .before in
+    (search needs, sym (durable-accepted (z .args .region .now) (z .pre .0) (markOf (z .args .version) (z .args .ordinal)) (z .args .bound) (z .pre .1)))
 
 loop-less : tie.Need-loop-less Inv-loop μ-loop
 loop-less c =

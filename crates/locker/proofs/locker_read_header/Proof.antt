@@ -12,13 +12,13 @@ returns : tie.Need-returns
 returns c =
     let z = c .before .before .before in
     let e = sym (ap saidHeader (c .before .answer .given .1)) ∙ z .read-header .ensures in
-    (ap numberSaid e, ap (λ (x : Said ℕ). valueOut x (z .before .before .args .ordinal .now)) e)
+    (ap numberSaid e, ap (λ (x : Said (ℕ × ℕ)). valueOut x (z .before .before .args .version .now, z .before .before .args .ordinal .now)) e)
 
 returns-2 : tie.Need-returns-2
 returns-2 c =
     let z = c .before .before .before .before in
     let e = sym (ap saidHeader (c .before .before .answer2 .given .1)) ∙ z .read-header .ensures in
-    (c .number .ensures ∙ ap numberSaid e, ap (λ (x : Said ℕ). valueOut x (z .before .before .args .ordinal .now)) e)
+    (c .number .ensures ∙ ap numberSaid e, ap (λ (x : Said (ℕ × ℕ)). valueOut x (z .before .before .args .version .now, z .before .before .args .ordinal .now)) e)
 
 pub locker-read-header-spec : {M : Type 1} → statement M
 locker-read-header-spec = tie.close (tie.spec (λ c κs. search needs) (λ c. search needs) (λ c. search needs) (λ c κs. search needs) returns returns-2)

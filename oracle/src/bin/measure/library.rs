@@ -8,6 +8,10 @@ use original::State;
 
 use crate::cells::{cells_of, state_of};
 
+/// Files of version 1 are measured, in which the ordinal has no effect. The original is built without any other marks.
+const VERSION: u64 = 1;
+const ORDINAL: u64 = 7;
+
 /// The answer, or the number of document 01's table as an error.
 fn answered<T>(number: u32, answer: T) -> Result<T, String> {
     if number == 0 {
@@ -28,10 +32,12 @@ pub fn append(region: &mut [u8], used: u64, ns: u64, key: &[u8], value: Option<&
     let number = match value {
         Some(value) => unsafe {
             let (key, klen, value, vlen) = (key.as_ptr(), key.len(), value.as_ptr(), value.len());
-            sys::locker_append_data(lent, length, used as usize, 0, ns, key, klen, value, vlen, &mut next)
+            let used = used as usize;
+            sys::locker_append_data(lent, length, VERSION, ORDINAL, used, 0, ns, key, klen, value, vlen, &mut next)
         },
         None => unsafe {
-            sys::locker_append_tombstone(lent, length, used as usize, ns, key.as_ptr(), key.len(), &mut next)
+            let (key, klen, used) = (key.as_ptr(), key.len(), used as usize);
+            sys::locker_append_tombstone(lent, length, VERSION, ORDINAL, used, ns, key, klen, &mut next)
         },
     };
     answered(number, next)
@@ -45,8 +51,9 @@ pub fn used_bound(region: &[u8]) -> Result<u64, String> {
 
 pub fn durable_end(region: &[u8], bound: u64) -> Result<u64, String> {
     let (mut end, mut place) = (0, 0);
+    let (lent, length) = (region.as_ptr(), region.len());
     let number =
-        unsafe { sys::locker_durable_end(region.as_ptr(), region.len(), bound as usize, &mut end, &mut place) };
+        unsafe { sys::locker_durable_end(lent, length, VERSION, ORDINAL, bound as usize, &mut end, &mut place) };
     answered(number, end)
 }
 

@@ -1,0 +1,17 @@
+-- `answers::is_version` meets its contract: one test and then the other.
+-- Assumes nothing.
+use borrow.Author.Tests.{eq-eqb, ne-eqb}
+use Rattle.answers.specs.Versions.{isVersion}
+use Rattle.answers.proofs.is_version.Statement.{statement}
+use Rattle.answers.proofs.is_version.Tie as tie
+
+returns : tie.Need-returns
+unfolding isVersion
+returns c = simp (eq-eqb _ _ (c .if1 .taken))
+
+returns-2 : tie.Need-returns-2
+unfolding isVersion
+returns-2 c = simp (ne-eqb _ _ (c .if1 .left))
+
+pub is-version-spec : {M : Type 1} → statement M
+is-version-spec = tie.close (tie.spec returns returns-2)
