@@ -7,7 +7,7 @@ use crate::sample;
 use append::Appended;
 use scan::Walked;
 
-fn said_of(answer: Appended, as_found: bool) -> Said {
+pub fn said_of(answer: Appended, as_found: bool) -> Said {
     match answer {
         Appended::Used(used) => Said::Number(used as u64),
         Appended::Refused(refusal) => judge::refused_leaving(refusal, as_found),

@@ -1,10 +1,10 @@
 // Document 02, request 10: the calls that need a mark take version and ordinal. Any other version
 // than 1 and 2 gets 2, before all other refusals; in the header's writer 1 comes first.
+use crate::appends;
 use crate::headers;
 use crate::judge;
 use crate::judge::Said;
 use crate::sample;
-use append::Appended;
 use read::Reading;
 use scan::Walked;
 use tail::DurableEnd;
@@ -18,7 +18,7 @@ fn answer(answered: Said, expected: Said) {
     judge::answer_by(answered, expected, b"request 10");
 }
 
-// The walk from 0 to the region's end; of an entry, where it ends.
+// The walk from 0 to the bound; of an entry, where it ends.
 fn walk(region: &[u8], version: u64, ordinal: u64, bound: usize, expected: Said) {
     begin(version, ordinal);
     judge::write(b", walk");
@@ -52,13 +52,6 @@ fn read(region: &[u8], version: u64, ordinal: u64, p: usize, expected: Said) {
     }
 }
 
-fn appended(answered: Appended, as_found: bool) -> Said {
-    match answered {
-        Appended::Used(n) => Said::Number(n as u64),
-        Appended::Refused(refusal) => judge::refused_leaving(refusal, as_found),
-    }
-}
-
 fn data(
     region: &mut [u8],
     version: u64,
@@ -73,7 +66,7 @@ fn data(
     let before = checksum::hash(region);
     let answered = append::append_data(region, version, ordinal, used, kind, 1, b"A7", value);
     let as_found = before == checksum::hash(region);
-    answer(appended(answered, as_found), expected);
+    answer(appends::said_of(answered, as_found), expected);
 }
 
 fn tombstone(region: &mut [u8], version: u64, ordinal: u64, used: usize, expected: Said) {
@@ -82,7 +75,7 @@ fn tombstone(region: &mut [u8], version: u64, ordinal: u64, used: usize, expecte
     let before = checksum::hash(region);
     let answered = append::append_tombstone(region, version, ordinal, used, 1, b"A7");
     let as_found = before == checksum::hash(region);
-    answer(appended(answered, as_found), expected);
+    answer(appends::said_of(answered, as_found), expected);
 }
 
 // Everything else is wrong too: the bound, the place, the used count and the type.
