@@ -1,7 +1,7 @@
 // Measures two builds of the library in turns: the checksum alone, durable end, reads at a place, appends, the start file,
-// the tracker. bench/before builds and runs this, with the path of the earlier build, whether its calls are `with` version
-// and ordinal or `without`, the path of today's build and the number of rounds. Prints a line for each case, and ends with
-// status 1 if the two ever give different sums, ends, entries, bytes, places or progress.
+// the tracker. bench/before builds and runs this, with the path of the earlier build, the form of its calls (`neither`,
+// `versions` or `efforts`), the path of today's build and the number of rounds. Prints a line for each case, and ends with
+// status 1 if the two ever give different sums, ends, efforts, entries, bytes, places or progress.
 #define _POSIX_C_SOURCE 199309L
 #include <dlfcn.h>
 #include <stdio.h>
@@ -11,12 +11,14 @@
 
 #include "locker_log.h"
 
-enum { REGION = 268435456, LONGEST_RUN = 67108864, MOST_SUMS = 5000000, MOST_APPENDS = 200000, ROOM_FOR_APPENDS = 67108864, STARTS = 20000, TRACKS = 20000 };
+enum { REGION = 268435456, HOSTILE = 65536, LONGEST_RUN = 67108864, ROOM_FOR_APPENDS = 67108864 };
+enum { MOST_SUMS = 5000000, MOST_APPENDS = 200000, STARTS = 20000, TRACKS = 20000 };
 
 // What is called of a build. Calls go through these pointers, so the compiler can neither merge nor skip them. Those that
-// need a mark have two forms: with the file's version and ordinal, and without, as before there were version 2 files.
+// need a mark have two forms: with the file's version and ordinal, and without, as before there were version 2 files. A
+// durable end has a third, which tells its effort too.
 struct side {
-    bool versions;
+    bool versions, efforts;
     uint16_t (*hash)(const uint8_t *, size_t);
     union {
         uint32_t (*with)(uint8_t *, size_t, uint64_t, uint64_t, size_t, uint64_t, uint64_t, const uint8_t *, size_t, const uint8_t *, size_t,
@@ -28,6 +30,7 @@ struct side {
         uint32_t (*without)(uint8_t *, size_t, size_t, uint64_t, const uint8_t *, size_t, uint64_t *);
     } append_tombstone;
     union {
+        uint32_t (*telling)(const uint8_t *, size_t, uint64_t, uint64_t, size_t, uint64_t *, uint64_t *, struct locker_effort *);
         uint32_t (*with)(const uint8_t *, size_t, uint64_t, uint64_t, size_t, uint64_t *, uint64_t *);
         uint32_t (*without)(const uint8_t *, size_t, size_t, uint64_t *, uint64_t *);
     } durable_end;
@@ -59,12 +62,13 @@ static void *found(void *library, const char *name)
     return function;
 }
 
-static struct side loaded(const char *path, bool versions)
+static struct side loaded(const char *path, const char *form)
 {
     void *library = dlopen(path, RTLD_NOW | RTLD_LOCAL);
     if (!library)
         fail(dlerror());
-    struct side side = {.versions = versions};
+    struct side side = {.efforts = strcmp(form, "efforts") == 0};
+    side.versions = side.efforts || strcmp(form, "versions") == 0;
     *(void **)&side.hash = found(library, "locker_hash");
     *(void **)&side.append_data = found(library, "locker_append_data");
     *(void **)&side.append_tombstone = found(library, "locker_append_tombstone");
@@ -101,13 +105,27 @@ struct best {
 
 typedef uint64_t measured_fn(const struct side *side, const void *what);
 
+// The call with that many bytes of stack passed over first. A short sum copies its tables to the stack, and how fast that
+// is depends on where they come to lie: durable end at entries of 16 bytes takes up to a tenth longer at one place than at
+// another, in the same build. So each round has another place, and the best of them counts for each side.
+__attribute__((noinline)) static uint64_t deeper(size_t bytes, measured_fn *measured, const struct side *side, const void *what)
+{
+    volatile uint8_t passed[bytes];
+    passed[0] = 0;
+    uint64_t answer = measured(side, what);
+    return answer + passed[0];
+}
+
+enum { STACK_STEP = 16, STACK_PLACES = 8 };
+
 static struct best in_turns(measured_fn *measured, const void *what)
 {
     struct best best = {{1e9, 1e9}, {0, 0}};
     for (int round = 0; round < rounds; round++)
         for (int i = 0; i < SIDES; i++) {
+            const size_t passed = STACK_STEP * (size_t)(1 + round % STACK_PLACES);
             double began = now();
-            best.answer[i] = measured(&sides[i], what);
+            best.answer[i] = deeper(passed, measured, &sides[i], what);
             double took = now() - began;
             if (took < best.seconds[i])
                 best.seconds[i] = took;
@@ -156,7 +174,7 @@ struct log {
     uint8_t *region;
     const uint8_t *bytes;
     uint64_t version, ordinal;
-    size_t capacity, klen, vlen, size, count;
+    size_t capacity, klen, vlen, size, count, end;
 };
 
 // Each build is called in its own form.
@@ -176,9 +194,11 @@ static uint32_t append_tombstone(const struct side *side, const struct log *log,
     return side->append_tombstone.without(log->region, log->capacity, *used, 1, key, log->klen, used);
 }
 
-static uint32_t durable_end(const struct side *side, const struct log *log, uint64_t *end, uint64_t *place)
+static uint32_t durable_end(const struct side *side, const struct log *log, uint64_t *end, uint64_t *place, struct locker_effort *effort)
 {
     const size_t bound = log->size * log->count;
+    if (side->efforts)
+        return side->durable_end.telling(log->region, log->capacity, log->version, log->ordinal, bound, end, place, effort);
     if (side->versions)
         return side->durable_end.with(log->region, log->capacity, log->version, log->ordinal, bound, end, place);
     return side->durable_end.without(log->region, log->capacity, bound, end, place);
@@ -204,15 +224,17 @@ static uint64_t appended(const struct side *side, const void *what)
     return used;
 }
 
+// The end, and the effort where both sides tell it.
 static uint64_t ended(const struct side *side, const void *what)
 {
     const struct log *log = what;
     uint64_t end = 0, place = 0;
-    if (durable_end(side, log, &end, &place))
+    struct locker_effort effort = {0, 0};
+    if (durable_end(side, log, &end, &place, &effort))
         fail("a durable end was refused");
-    if (end != log->size * log->count)
-        fail("a durable end isn't the last entry's");
-    return end;
+    if (end != log->end)
+        fail("a durable end isn't the one that was meant");
+    return sides[EARLIER].efforts ? (end * 31 + effort.lines) * 31 + effort.bytes : end;
 }
 
 // The entries are inserts, which every build tells as such.
@@ -233,8 +255,9 @@ static void measure_entries(struct log log, size_t length)
 {
     log.size = (length + 15) / 16 * 16;
     log.count = REGION / log.size;
+    log.end = log.size * log.count;
     memset(log.region, 0, REGION);
-    if (appended(&sides[TODAY], &log) != log.size * log.count)
+    if (appended(&sides[TODAY], &log) != log.end)
         fail("the entries don't have the size that was meant");
     struct log other = log;
     // Under this ordinal version 2 has version 1's marks: the same bytes serve, and a build without versions ends alike.
@@ -262,6 +285,56 @@ static void measure_appends(struct log log, size_t length)
     for (int i = 0; i < SIDES; i++)
         best.answer[i] = written(&sides[i], &log);
     report("append", length, (double)log.size * (double)log.count, (double)log.count, best);
+}
+
+// ---- regions without an entry, in which every line is tried
+
+static void put_number(uint8_t *at, uint64_t number, int bytes)
+{
+    for (int i = 0; i < bytes; i++)
+        at[i] = (uint8_t)(number >> 8 * i);
+}
+
+// Version 1's mark of a line.
+static uint64_t mark(size_t p)
+{
+    return (p / 16 + 0x5A17C0) % 0x1000000;
+}
+
+static void measure_lines(const char *name, struct log log, size_t length, size_t bytes)
+{
+    log.capacity = length;
+    log.size = LOCKER_LINE;
+    log.count = length / LOCKER_LINE;
+    log.end = 0;
+    report(name, length, (double)bytes, (double)log.count, in_turns(ended, &log));
+}
+
+// Of the zeros one line has its mark, which is 0, and seems to be an entry of 10 bytes with a wrong checksum.
+static void measure_no_entry(struct log log)
+{
+    memset(log.region, 0, REGION);
+    measure_lines("end, zeros", log, REGION, REGION);
+    fill(log.region, REGION);
+    for (size_t p = 0; p < REGION; p += LOCKER_LINE)
+        if (log.region[p] == mark(p) % 256)
+            log.region[p] ^= 1;
+    measure_lines("end, no mark", log, REGION, REGION);
+}
+
+// The costliest region of its size: at each line an entry of a key alone that takes all the rest, and all of them share the
+// last two bytes as their checksum, which is right for none of them. The bytes are those that are checksummed.
+static void measure_hostile(struct log log)
+{
+    size_t bytes = 0;
+    fill(log.region, HOSTILE);
+    for (size_t p = 0; p < HOSTILE; p += LOCKER_LINE) {
+        put_number(log.region + p, mark(p), 4);
+        put_number(log.region + p + 4, HOSTILE - p - 10, 2);
+        put_number(log.region + p + 6, 0, 2);
+        bytes += HOSTILE - p - 2;
+    }
+    measure_lines("end, hostile", log, HOSTILE, bytes);
 }
 
 // ---- the start file, of an ascending list, where every build chooses the same, and with a cursor past its last ordinal
@@ -359,9 +432,9 @@ int main(int argc, char **argv)
         size_t length, klen, vlen;
     } entries[] = {{16, 8, 0}, {32, 8, 14}, {4096, 16, 4070}, {36874, 4096, 32768}};
     if (argc != 5)
-        fail("takes the earlier library, `with` or `without` for its calls, today's library and the number of rounds");
-    sides[EARLIER] = loaded(argv[1], strcmp(argv[2], "with") == 0);
-    sides[TODAY] = loaded(argv[3], true);
+        fail("takes the earlier library, the form of its calls, today's library and the number of rounds");
+    sides[EARLIER] = loaded(argv[1], argv[2]);
+    sides[TODAY] = loaded(argv[3], "efforts");
     rounds = atoi(argv[4]);
 
     uint8_t *region = malloc(REGION), *bytes = malloc(LONGEST_RUN + 1);
@@ -379,6 +452,8 @@ int main(int argc, char **argv)
         measure_entries(log, entries[i].length);
         measure_appends(log, entries[i].length);
     }
+    measure_no_entry(log);
+    measure_hostile(log);
     for (size_t count = 1; count <= LOCKER_MOST_ORDINALS; count *= 8)
         measure_starts(count);
     for (size_t count = 0; count < LOCKER_WAITING; count = 2 * count + 1)

@@ -6,7 +6,7 @@
  * Every function that can refuse answers a number: 0 for accepted, else the number of document 01's table (LOCKER_...
  * below). Any bytes and any numbers may be passed, and a tracker of any cells. "Refuses 3, 5" gives a function's
  * refusals in the order in which they are tested. A refusal changes no lent byte, no cell of a tracker and no out
- * parameter, but for the place that goes with LOCKER_UNKNOWN_TYPE.
+ * parameter, but for what goes with LOCKER_UNKNOWN_TYPE: the place, and with a durable end the effort too.
  *
  * Who owns what: the caller owns every buffer, every tracker and every out parameter, and the library keeps no pointer
  * after it returns, allocates nothing and has no state. A pointer with a length covers that many bytes (or ordinals,
@@ -35,6 +35,7 @@
  *
  *     uint64_t version, ordinal, bound, end, place, found, at = 0;
  *     struct locker_entry entry;
+ *     struct locker_effort effort;
  *     if (locker_read_header(file, file_length, &version, &ordinal) != 0)
  *         return refuse_card();
  *     const uint8_t *region = file + LOCKER_HEADER_LENGTH;
@@ -45,8 +46,9 @@
  *         use(entry.ns, region + entry.kplace, entry.klen, region + entry.vplace, entry.vlen);
  *         at = entry.end;
  *     }
- *     if (locker_durable_end(region, length, version, ordinal, bound, &end, &place) != 0)
+ *     if (locker_durable_end(region, length, version, ordinal, bound, &end, &place, &effort) != 0)
  *         return refuse_card();
+ *     note_effort(effort.lines, effort.bytes);
  *     continue_writing_at(end);
  *
  * A reservation's life: shard 3 reserves a line of the active file, writes its entry there and completes, which leaves
@@ -139,6 +141,18 @@ struct locker_entry {
     uint64_t vplace;
     uint64_t kplace;
     uint64_t end;
+};
+
+/* What a durable end took: how many lines it tried, and how many bytes it checksummed. It tries a line by comparing its
+ * mark: each line that it comes to below the bound, with at least eight bytes left in the region; the lines that a
+ * verified entry covers it passes over. A tried line with the right mark, type 0, 1 or 2 and its whole entry within the
+ * region adds the entry's length less 2, whether its checksum agrees or not; any other line adds nothing.
+ *
+ * Whatever the bytes are, the lines are at most the bound divided by 16, rounded up, and the bytes at most 131,078 for
+ * each line tried. Both come with 0, and with LOCKER_UNKNOWN_TYPE up to and including the line that is refused. */
+struct locker_effort {
+    uint64_t lines;
+    uint64_t bytes;
 };
 
 /* A reservation's number, and the place that it holds: the file's ordinal and the offset. Number 0 is an idle slot,
@@ -239,9 +253,10 @@ void locker_part(const uint8_t *region, size_t length, size_t at, size_t len, ui
 /* One past the last nonzero byte, rounded up to a line, but at most the length. Refuses 3. */
 uint32_t locker_used_bound(const uint8_t *region, size_t length, uint64_t *bound);
 
-/* The last verified entry's end rounded up to a line, or 0. Refuses 2, 3, 4, then 10 with its *place. */
+/* The last verified entry's end rounded up to a line, or 0, and in *effort what it took. Refuses 2, 3, 4, then 10 with
+ * its *place and with *effort. */
 uint32_t locker_durable_end(const uint8_t *region, size_t length, uint64_t version, uint64_t ordinal, size_t bound,
-                            uint64_t *end, uint64_t *place);
+                            uint64_t *end, uint64_t *place, struct locker_effort *effort);
 
 /* ---- replay */
 
@@ -338,6 +353,10 @@ LOCKER_HOLDS(offsetof(struct locker_entry, vlen) == 32, "then the value's length
 LOCKER_HOLDS(offsetof(struct locker_entry, vplace) == 40, "then the value's place");
 LOCKER_HOLDS(offsetof(struct locker_entry, kplace) == 48, "then the key's place");
 LOCKER_HOLDS(offsetof(struct locker_entry, end) == 56, "then the end");
+
+LOCKER_HOLDS(sizeof(struct locker_effort) == 16, "two numbers of 64 bits");
+LOCKER_HOLDS(offsetof(struct locker_effort, lines) == 0, "lines first");
+LOCKER_HOLDS(offsetof(struct locker_effort, bytes) == 8, "then bytes");
 
 LOCKER_HOLDS(sizeof(struct locker_slot) == 24, "three numbers of 64 bits");
 LOCKER_HOLDS(offsetof(struct locker_slot, number) == 0, "number first");

@@ -7,6 +7,8 @@ import binascii
 
 LINE = 16
 HEADER_LENGTH = 4096
+LARGEST_LENGTH = 65535
+LONGEST_ENTRY = 10 + 2 * LARGEST_LENGTH
 SIGNATURE = bytes.fromhex("4C4F434B44415431")
 INSERT, UPDATE, TOMBSTONE, UNKNOWN = 0, 1, 2, 3
 
@@ -59,3 +61,25 @@ def region(*entries, version=1, ordinal=0):
 def data_file(*entries, ordinal, version=1):
     """A whole file: its header, and its entries under the header's version and ordinal."""
     return header(ordinal, version) + region(*entries, version=version, ordinal=ordinal)
+
+
+def furthest(offset, end, version=1, ordinal=0):
+    """The word and the lengths of the longest entry that fits between `offset` and `end`, at least eight bytes: it ends at `end`, or as far as two
+    lengths of 65,535 reach. With fewer than ten bytes only a tombstone has room."""
+    length = min(end - offset, LONGEST_ENTRY)
+    word = mark(offset, version, ordinal)
+    if length < 10:
+        return number(word + (TOMBSTONE << 30), 4) + number(length - 8, 2)
+    klen = min(length - 10, LARGEST_LENGTH)
+    return number(word, 4) + number(klen, 2) + number(length - 10 - klen, 2)
+
+
+def hostile(length, version=1, ordinal=0):
+    """The region of this length that holds a boot the longest: every line has its mark and the longest entry that fits behind it, and no checksum
+    agrees. All entries end with the region, so that they share their checksum's place, and a number that is no line's sum stands there."""
+    assert 8 <= length <= LONGEST_ENTRY, "in a longer region not every entry reaches its end"
+    lines = range(0, length - 7, LINE)
+    data = b"".join(furthest(at, length, version, ordinal).ljust(LINE, b"\xff") for at in lines)
+    data = data.ljust(length, b"\xff")[: length - 2]
+    sums = {checksum(data[at:]) for at in lines}
+    return data + number(max(set(range(2**16)) - sums), 2)

@@ -1,5 +1,5 @@
-/* Boots a card image: reads the header, lists what stands, and says where writing goes on. With include/locker_log.h
- * alone as its guide; `tests/bindings` builds it and boots damaged cards with it. */
+/* Boots a card image: reads the header, lists what stands, and says what the durable end took and where writing goes
+ * on. With include/locker_log.h alone as its guide; `tests/bindings` builds it and boots damaged cards with it. */
 #include <inttypes.h>
 #include <stdio.h>
 #include <stdlib.h>
@@ -16,6 +16,7 @@ static int refused(uint32_t number, const char *what) {
 static int boot(const uint8_t *file, size_t file_length) {
     uint64_t version = 0, ordinal = 0, bound = 0, end = 0, place = 0, found = 0;
     struct locker_entry entry;
+    struct locker_effort effort;
     uint32_t number = locker_read_header(file, file_length, &version, &ordinal);
     if (number != LOCKER_ACCEPTED) return refused(number, "header");
     const uint8_t *region = file + LOCKER_HEADER_LENGTH;
@@ -23,19 +24,18 @@ static int boot(const uint8_t *file, size_t file_length) {
     number = locker_used_bound(region, length, &bound);
     if (number != LOCKER_ACCEPTED) return refused(number, "used bound");
     printf("file %" PRIu64 ", %" PRIu64 " bytes in use\n", ordinal, bound);
-    for (;;) {
-        number = locker_walk(region, length, version, ordinal, bound, at, &entry, &found, &place);
-        if (number != LOCKER_ACCEPTED || !found) break;
+    while (locker_walk(region, length, version, ordinal, bound, at, &entry, &found, &place) == 0 && found) {
         printf("%" PRIu64 " %s %" PRIu64 " %.*s %.*s\n", entry.offset, kinds[entry.kind], entry.ns, (int)entry.klen,
                (const char *)region + entry.kplace, (int)entry.vlen, (const char *)region + entry.vplace);
         at = entry.end;
     }
+    number = locker_durable_end(region, length, version, ordinal, bound, &end, &place, &effort);
+    if (number != LOCKER_ACCEPTED && number != LOCKER_UNKNOWN_TYPE) return refused(number, "durable end");
+    printf("lines tried %" PRIu64 ", bytes checksummed %" PRIu64 "\n", effort.lines, effort.bytes);
     if (number == LOCKER_UNKNOWN_TYPE) {
         printf("refused 10 at %" PRIu64 "\n", place);
         return 1;
     }
-    number = locker_durable_end(region, length, version, ordinal, bound, &end, &place);
-    if (number != LOCKER_ACCEPTED) return refused(number, "durable end");
     printf("writing goes on at %" PRIu64 "\n", end);
     return 0;
 }

@@ -15,11 +15,16 @@ static void use(uint64_t ns, const uint8_t *key, uint64_t klen, const uint8_t *v
     printf("namespace %" PRIu64 " %.*s: %.*s\n", ns, (int)klen, (const char *)key, (int)vlen, (const char *)value);
 }
 
+static void note_effort(uint64_t lines, uint64_t bytes) {
+    printf("lines tried %" PRIu64 ", bytes checksummed %" PRIu64 "\n", lines, bytes);
+}
+
 static void continue_writing_at(uint64_t end) { printf("writing goes on at %" PRIu64 "\n", end); }
 
 static int boot(const uint8_t *file, size_t file_length) {
     uint64_t version, ordinal, bound, end, place, found, at = 0;
     struct locker_entry entry;
+    struct locker_effort effort;
     if (locker_read_header(file, file_length, &version, &ordinal) != 0)
         return refuse_card();
     const uint8_t *region = file + LOCKER_HEADER_LENGTH;
@@ -30,8 +35,9 @@ static int boot(const uint8_t *file, size_t file_length) {
         use(entry.ns, region + entry.kplace, entry.klen, region + entry.vplace, entry.vlen);
         at = entry.end;
     }
-    if (locker_durable_end(region, length, version, ordinal, bound, &end, &place) != 0)
+    if (locker_durable_end(region, length, version, ordinal, bound, &end, &place, &effort) != 0)
         return refuse_card();
+    note_effort(effort.lines, effort.bytes);
     continue_writing_at(end);
     return 0;
 }

@@ -908,80 +908,388 @@ static void try_used_bound(void) {
     }
 }
 
-static uint32_t durable_end(const uint8_t *region, size_t length, size_t bound, uint64_t *told) {
-    uint64_t end = UNTOUCHED, place = UNTOUCHED;
-    uint32_t answer = locker_durable_end(region, length, rule.version, rule.ordinal, bound, &end, &place);
-    CHECK(answer == LOCKER_ACCEPTED || end == UNTOUCHED);
-    CHECK(answer == LOCKER_UNKNOWN_TYPE || place == UNTOUCHED);
-    *told = answer == LOCKER_UNKNOWN_TYPE ? place : end;
-    return answer;
+/* What a durable end answers: the number, the end or with 10 the place, and the effort, where the number has them. */
+struct ended {
+    uint32_t number;
+    uint64_t at;
+    struct locker_effort effort;
+};
+
+static uint64_t number_at(const uint8_t *at, int bytes) {
+    uint64_t number = 0;
+    for (int i = 0; i < bytes; i++) number |= (uint64_t)at[i] << 8 * i;
+    return number;
 }
 
-static void durable_end_limits(void) {
-    uint8_t region[64] = {0}, kept[64];
-    uint64_t told;
-    put_sample(region);
-    memcpy(kept, region, 64);
-    for (size_t bound = 0; bound <= 64; bound++) {
-        CHECK(durable_end(region, 64, bound, &told) == LOCKER_ACCEPTED);
-        CHECK(told == (bound < 48 ? up(bound) : 48));
-        CHECK(durable_end(region, bound, bound + 1, &told) == LOCKER_BOUND_PAST_REGION);
-        CHECK(durable_end(region, bound, SIZE_MAX, &told) == LOCKER_BOUND_PAST_REGION);
+/* What can become of a line that is tried, and how often it has under the plain rule. */
+enum { WRONG_MARK, UNKNOWN, PAST_THE_REGION, WRONG_CHECKSUM, VERIFIED, OUTCOMES };
+static unsigned long met[OUTCOMES];
+
+/* What becomes of the line p, and how many bytes a checksum of its entry covers. */
+static int plain_line(const uint8_t *region, size_t length, size_t p, size_t *covered) {
+    const uint8_t *at = region + p;
+    if (number_at(at, 3) != mark(p)) return WRONG_MARK;
+    unsigned kind = at[3] >> 6;
+    if (kind == 3) return UNKNOWN;
+    *covered = kind == 2 ? 6 + number_at(at + 4, 2) : 8 + number_at(at + 4, 2) + number_at(at + 6, 2);
+    if (*covered + 2 > length - p) return PAST_THE_REGION;
+    return plain_sum(0xffff, at, *covered) == number_at(at + *covered, 2) ? VERIFIED : WRONG_CHECKSUM;
+}
+
+/* The durable end by document 01's walk and document 02's request 8, line by line. */
+static struct ended plain_end(const uint8_t *region, size_t length, size_t bound) {
+    struct ended told = {.number = LOCKER_ACCEPTED};
+    if (rule.version != 1 && rule.version != 2) return (struct ended){.number = 2};
+    if (length > largest) return (struct ended){.number = 3};
+    if (bound > length) return (struct ended){.number = 4};
+    for (size_t p = 0, next; p < bound && length - p >= 8; p = next) {
+        size_t covered = 0;
+        int outcome = plain_line(region, length, p, &covered);
+        met[outcome]++;
+        told.effort.lines++;
+        if (outcome == UNKNOWN) return (struct ended){10, p, told.effort};
+        if (outcome == WRONG_CHECKSUM || outcome == VERIFIED) told.effort.bytes += covered;
+        next = outcome == VERIFIED ? up(p + covered + 2) : p + 16;
+        if (outcome == VERIFIED) told.at = next;
     }
-    CHECK(durable_end(region, 0, 0, &told) == LOCKER_ACCEPTED && told == 0);
-    /* past the region by as much as its last entry's filling */
-    CHECK(durable_end(region, 13, 13, &told) == LOCKER_ACCEPTED && told == 16);
-    CHECK(durable_end(region, 12, 12, &told) == LOCKER_ACCEPTED && told == 0);
-    CHECK(durable_end(region, 42, 42, &told) == LOCKER_ACCEPTED && told == 48);
-    CHECK(durable_end(region, 41, 41, &told) == LOCKER_ACCEPTED && told == 32);
-    CHECK(memcmp(region, kept, 64) == 0);
-    uint8_t gap[64];
+    return told;
+}
+
+static bool same_effort(struct locker_effort a, struct locker_effort b) {
+    return a.lines == b.lines && a.bytes == b.bytes;
+}
+
+/* The durable end, held to what is wanted, and to the two bounds on the effort. What isn't told has to stay, and so has
+ * the region (a small one). */
+static struct ended wanted_end(const uint8_t *region, size_t length, size_t bound, struct ended wanted) {
+    const struct locker_effort no_effort = {UNTOUCHED, UNTOUCHED};
+    struct locker_effort effort[2] = {no_effort, no_effort};
+    uint64_t end = UNTOUCHED, place = UNTOUCHED;
+    size_t looked = length <= 200000 ? length : 0;
+    uint8_t *kept = copied(region, looked);
+    uint32_t number = locker_durable_end(region, length, rule.version, rule.ordinal, bound, &end, &place, &effort[0]);
+    CHECK(memcmp(kept, region, looked) == 0);
+    free(kept);
+    bool counted = number == LOCKER_ACCEPTED || number == LOCKER_UNKNOWN_TYPE;
+    CHECK(number == wanted.number);
+    CHECK(end == (number == LOCKER_ACCEPTED ? wanted.at : UNTOUCHED));
+    CHECK(place == (number == LOCKER_UNKNOWN_TYPE ? wanted.at : UNTOUCHED));
+    CHECK(same_effort(effort[0], counted ? wanted.effort : no_effort));
+    CHECK(same_effort(effort[1], no_effort));
+    if (counted) CHECK(effort[0].lines <= bound / 16 + (bound % 16 != 0));
+    if (counted) CHECK(effort[0].bytes <= effort[0].lines * 131078);
+    return (struct ended){number, number == LOCKER_UNKNOWN_TYPE ? place : end, effort[0]};
+}
+
+/* The durable end, held to the plain rule. */
+static struct ended durable_end(const uint8_t *region, size_t length, size_t bound) {
+    return wanted_end(region, length, bound, plain_end(region, length, bound));
+}
+
+static bool is_ended(struct ended told, uint32_t number, uint64_t at, uint64_t lines, uint64_t bytes) {
+    return told.number == number && told.at == at && told.effort.lines == lines && told.effort.bytes == bytes;
+}
+
+/* Whether the durable end is this one, after so many lines and bytes. */
+static bool ends(const uint8_t *region, size_t length, size_t bound, uint64_t end, uint64_t lines, uint64_t bytes) {
+    return is_ended(durable_end(region, length, bound), LOCKER_ACCEPTED, end, lines, bytes);
+}
+
+/* Whether the durable end is refused with 10 at this place, after so many lines and bytes, the refused line's too. */
+static bool is_unknown(const uint8_t *region, size_t length, size_t bound, uint64_t place, uint64_t lines,
+                       uint64_t bytes) {
+    return is_ended(durable_end(region, length, bound), LOCKER_UNKNOWN_TYPE, place, lines, bytes);
+}
+
+static void durable_end_of_the_sample(void) {
+    uint8_t region[64] = {0}, gap[64];
+    put_sample(region);
+    for (size_t bound = 0; bound <= 64; bound++) {
+        uint64_t bytes = bound == 0 ? 0 : bound <= 16 ? 11 : bound <= 32 ? 11 + 12 : 11 + 12 + 8;
+        CHECK(ends(region, 64, bound, bound < 48 ? up(bound) : 48, up(bound) / 16, bytes));
+        CHECK(durable_end(region, bound, bound + 1).number == LOCKER_BOUND_PAST_REGION);
+        CHECK(durable_end(region, bound, SIZE_MAX).number == LOCKER_BOUND_PAST_REGION);
+    }
+    CHECK(ends(region, 48, 48, 48, 3, 31));
+    CHECK(ends(region, 0, 0, 0, 0, 0));
+    /* past the region by as much as its last entry's filling; an entry that lacks a byte adds none */
+    CHECK(ends(region, 13, 13, 16, 1, 11));
+    CHECK(ends(region, 12, 12, 0, 1, 0));
+    CHECK(ends(region, 42, 42, 48, 3, 31));
+    CHECK(ends(region, 41, 41, 32, 3, 23));
+    CHECK(ends(region, 40, 40, 32, 3, 23));
+    CHECK(ends(region, 39, 39, 32, 2, 23));
+    /* the second entry's key is a byte longer, then reaches to the region's end, then a byte past it */
     memcpy(gap, region, 64);
-    gap[20] ^= 1;
-    CHECK(durable_end(gap, 64, 64, &told) == LOCKER_ACCEPTED && told == 48);
+    gap[20] = 3;
+    CHECK(ends(gap, 64, 64, 48, 4, 11 + 13 + 8));
+    gap[20] = 36;
+    CHECK(ends(gap, 64, 64, 48, 4, 11 + 46 + 8));
+    gap[20] = 37;
+    CHECK(ends(gap, 64, 64, 48, 4, 11 + 8));
+    /* its mark is wrong, its type 3 */
+    gap[16] ^= 1;
+    CHECK(ends(gap, 64, 64, 48, 4, 11 + 8));
+    gap[16] ^= 1;
     gap[19] |= 0xc0;
-    CHECK(durable_end(gap, 64, 64, &told) == LOCKER_UNKNOWN_TYPE && told == 16);
-    CHECK(durable_end(gap, 64, 17, &told) == LOCKER_UNKNOWN_TYPE && told == 16);
-    CHECK(durable_end(gap, 64, 16, &told) == LOCKER_ACCEPTED && told == 16);
-    CHECK(durable_end(gap, 64, 65, &told) == LOCKER_BOUND_PAST_REGION);
-    CHECK(durable_end(big, largest, largest, &told) == LOCKER_ACCEPTED && told == 0);
+    CHECK(is_unknown(gap, 64, 64, 16, 2, 11));
+    CHECK(is_unknown(gap, 64, 17, 16, 2, 11));
+    CHECK(ends(gap, 64, 16, 16, 1, 11));
+    CHECK(is_unknown(gap, 24, 24, 16, 2, 11));
+    CHECK(ends(gap, 23, 23, 16, 1, 11));
+    CHECK(durable_end(gap, 64, 65).number == LOCKER_BOUND_PAST_REGION);
+    gap[3] |= 0xc0;
+    CHECK(is_unknown(gap, 64, 64, 0, 1, 0));
+    /* each bit of it changed; each start of it, under each bound */
+    for (size_t bit = 0; bit < 8 * 64; bit++) {
+        region[bit / 8] ^= (uint8_t)(1 << bit % 8);
+        durable_end(region, 64, 64);
+        region[bit / 8] ^= (uint8_t)(1 << bit % 8);
+    }
+    for (size_t length = 0; length <= 64; length++)
+        for (size_t bound = 0; bound <= length; bound++) durable_end(region, length, bound);
+}
+
+/* Of zeros each line is tried that has eight bytes. None of these lines has the mark 0. */
+static void durable_end_of_zeros(void) {
+    static const uint8_t zeros[64];
+    for (size_t length = 0; length <= 64; length++) {
+        for (size_t bound = 0; bound <= length; bound++) {
+            uint64_t lines = 0;
+            for (size_t p = 0; p < bound; p += 16) lines += length - p >= 8;
+            CHECK(ends(zeros, length, bound, 0, lines, 0));
+        }
+    }
+}
+
+/* An entry that covers several lines is passed over whole where it verifies; where it doesn't, each line is tried. */
+static void durable_end_over_lines(void) {
+    uint8_t region[96] = {0};
+    CHECK(put_entry(region, 0, 1, 1, 63, key, 20, value, 40) == 70);
+    CHECK(ends(region, 96, 96, 80, 2, 68));
+    CHECK(ends(region, 80, 80, 80, 1, 68));
+    CHECK(ends(region, 70, 1, 80, 1, 68));
+    region[8] ^= 1;
+    CHECK(ends(region, 96, 96, 0, 6, 68));
+    CHECK(ends(region, 70, 1, 0, 1, 68));
+    CHECK(ends(region, 69, 69, 0, 4, 0));
+    memset(region, 0, sizeof region);
+    CHECK(put_entry(region, 16, 2, 2, 63, key, 56, value, 0) == 64);
+    CHECK(ends(region, 96, 96, 80, 3, 62));
+    CHECK(ends(region, 80, 80, 80, 2, 62));
+    CHECK(ends(region, 79, 79, 0, 5, 0));
+    region[79] ^= 1;
+    CHECK(ends(region, 96, 96, 0, 6, 62));
+}
+
+/* The most that one line adds: key and value of 65,535 bytes each. */
+static void durable_end_at_most(void) {
+    const size_t longest = 131080;
+    uint8_t *part = calloc(1, 65535), *region = calloc(1, longest + 48);
+    if (part == NULL || region == NULL) exit(2);
+    CHECK(put_entry(region, 0, 0, 0, 63, part, 65535, part, 65535) == longest);
+    CHECK(ends(region, longest, longest, longest + 8, 1, 131078));
+    CHECK(ends(region, longest, 1, longest + 8, 1, 131078));
+    /* a byte too few: every line is tried but the last, which has seven bytes */
+    CHECK(ends(region, longest - 1, longest - 1, 0, 8192, 0));
+    CHECK(ends(region, longest - 1, 16, 0, 1, 0));
+    region[longest - 1] ^= 1;
+    CHECK(ends(region, longest, longest, 0, 8193, 131078));
+    CHECK(ends(region, longest, 16, 0, 1, 131078));
+    /* three lines that add so much each, and the third of them a byte too long for the region */
+    memset(region, 0, longest + 32);
+    for (size_t p = 0; p <= 32; p += 16) {
+        put_number(region + p, mark(p) | 1 << 30, 4);
+        put_number(region + p + 4, 0xffffffff, 4);
+    }
+    CHECK(ends(region, longest + 32, 33, 0, 3, 3 * 131078));
+    CHECK(ends(region, longest + 31, 33, 0, 3, 2 * 131078));
+    /* a tombstone of the longest key */
+    memset(region, 0, longest + 32);
+    CHECK(put_entry(region, 16, 2, 2, 63, part, 65535, part, 0) == 65543);
+    CHECK(ends(region, 65559, 65559, 65568, 2, 65541));
+    CHECK(ends(region, 65558, 17, 0, 2, 0));
+    free(part);
+    free(region);
+}
+
+/* A hostile card: every mark is right, every entry ends with the region, and no checksum agrees. */
+static void durable_end_of_a_hostile_region(void) {
+    enum { LINES = 1024, LENGTH = 16 * LINES };
+    uint8_t *region = malloc(LENGTH);
+    if (region == NULL) exit(2);
+    memset(region, 0x5a, LENGTH);
+    for (size_t p = 0; p < LENGTH; p += 16) {
+        size_t covered = LENGTH - p - 2, klen = covered - 8;
+        put_number(region + p, mark(p) | (uint64_t)(p / 16 % 2) << 30, 4);
+        put_number(region + p + 4, klen, 2);
+        put_number(region + p + 6, 0, 2);
+    }
+    /* all share their last two bytes: some such agree with none */
+    uint64_t sum = 0;
+    do put_number(region + LENGTH - 2, sum++, 2);
+    while (plain_end(region, LENGTH, LENGTH).at != 0);
+    CHECK(ends(region, LENGTH, LENGTH, 0, LINES, UINT64_C(8) * LINES * LINES + 6 * LINES));
+    CHECK(ends(region, LENGTH, LENGTH / 2, 0, LINES / 2, UINT64_C(6) * LINES * LINES + 3 * LINES));
+    CHECK(ends(region, LENGTH, 1, 0, 1, LENGTH - 2));
+    /* without the last byte every entry is too long */
+    CHECK(ends(region, LENGTH - 1, LENGTH - 1, 0, LINES, 0));
+    free(region);
+}
+
+/* More bytes than 32 bits hold: at each of 32,768 lines the most that one adds. The plain rule would take too long. */
+static void durable_end_of_many_bytes(void) {
+    enum { LINES = 32768, LENGTH = 16 * (LINES - 1) + 131080 };
+    uint8_t *region = calloc(1, LENGTH);
+    if (region == NULL) exit(2);
+    rule = rules[0];
+    for (size_t p = 0; p < 16 * LINES; p += 16) {
+        put_number(region + p, mark(p), 4);
+        put_number(region + p + 4, 0xffffffff, 4);
+    }
+    wanted_end(region, LENGTH, 16 * LINES, (struct ended){LOCKER_ACCEPTED, 0, {LINES, UINT64_C(4295163904)}});
+    free(region);
+}
+
+static void durable_end_of_the_largest(void) {
+    /* zeros: one line has the mark 0, where an entry of 10 bytes seems to stand */
+    const uint64_t lines = largest / 16;
+    size_t there = line_of(0);
+    CHECK(lines == 16777216);
+    CHECK(ends(big, largest, largest, 0, lines, 8));
+    CHECK(ends(big, largest, largest / 2, 0, lines / 2, there < largest / 2 ? 8 : 0));
+    CHECK(ends(big, largest, there, 0, there / 16, 0));
+    CHECK(ends(big, largest, there + 1, 0, there / 16 + 1, 8));
+    CHECK(ends(big, there + 10, there + 10, 0, there / 16 + 1, 8));
+    CHECK(ends(big, there + 9, there + 9, 0, there / 16 + 1, 0));
+    CHECK(ends(big, there + 8, there + 8, 0, there / 16 + 1, 0));
+    CHECK(ends(big, there + 7, there + 7, 0, there / 16, 0));
+    CHECK(ends(big, largest - 8, largest - 8, 0, lines, 8));
+    CHECK(ends(big, largest - 9, largest - 9, 0, lines - 1, 8));
     put_entry(big, largest - 16, 2, 2, 5, key, 8, value, 0);
-    CHECK(durable_end(big, largest, largest, &told) == LOCKER_ACCEPTED && told == largest);
-    CHECK(durable_end(big, largest, largest + 1, &told) == LOCKER_BOUND_PAST_REGION);
-    CHECK(durable_end(big, largest + 1, largest + 2, &told) == LOCKER_REGION_TOO_LARGE);
-    CHECK(durable_end(big, largest + 1, 0, &told) == LOCKER_REGION_TOO_LARGE);
+    CHECK(ends(big, largest, largest, largest, lines, 8 + 14));
+    CHECK(ends(big, largest, largest - 16, 0, lines - 1, 8));
+    CHECK(ends(big, largest, largest - 15, largest, lines, 8 + 14));
+    CHECK(durable_end(big, largest, largest + 1).number == LOCKER_BOUND_PAST_REGION);
+    CHECK(durable_end(big, largest + 1, largest + 2).number == LOCKER_REGION_TOO_LARGE);
+    CHECK(durable_end(big, largest + 1, largest).number == LOCKER_REGION_TOO_LARGE);
+    CHECK(durable_end(big, largest + 1, 0).number == LOCKER_REGION_TOO_LARGE);
     /* nothing but what this file put there, and took away again, has ever stood in the large region */
     memset(big + largest - 16, 0, 16);
     CHECK(all_are(big, largest + 1, 0));
 }
 
+static void durable_end_limits(void) {
+    durable_end_of_the_sample();
+    durable_end_of_zeros();
+    durable_end_over_lines();
+    durable_end_at_most();
+    durable_end_of_a_hostile_region();
+    durable_end_of_the_largest();
+}
+
 static uint32_t durable_end_of_a_version(bool due) {
-    uint64_t told;
     uint8_t region[64] = {0};
     put_sample(region);
-    return due ? durable_end(big, largest + 1, largest + 2, &told) : durable_end(region, 64, 64, &told);
+    return due ? durable_end(big, largest + 1, largest + 2).number : durable_end(region, 64, 64).number;
+}
+
+static void durable_end_of_a_card_used_again(void) {
+    uint8_t region[64] = {0};
+    for (size_t i = 0; i < LATER; i++) {
+        bool seen = recycle(region, i);
+        CHECK(seen ? ends(region, 64, 64, 48, 4, 31) : ends(region, 64, 64, 0, 4, 0));
+        put_entry(region, 0, 0, 0, 2, (const uint8_t *)"B2", 2, (const uint8_t *)"5", 1);
+        CHECK(seen ? ends(region, 64, 64, 48, 4, 31) : ends(region, 64, 64, 16, 4, 11));
+    }
+    share_marks(region);
+    CHECK(ends(region, 64, 64, 48, 4, 31));
+}
+
+/* Regions of 0xff, and one whose first mark is 0. */
+static void durable_end_of_erased(void) {
+    uint8_t region[64];
+    memset(region, 0xff, 64);
+    rule = (struct rule){LOCKER_VERSION_2, 0xA5E83F};
+    CHECK(is_unknown(region, 64, 64, 0, 1, 0));
+    CHECK(is_unknown(region, 8, 8, 0, 1, 0));
+    CHECK(ends(region, 7, 7, 0, 0, 0));
+    rule = (struct rule){LOCKER_VERSION_2, 0xA5E83D};
+    CHECK(is_unknown(region, 64, 64, 32, 3, 0));
+    CHECK(ends(region, 39, 39, 0, 2, 0));
+    rule = (struct rule){LOCKER_VERSION_1, 0xA5E83F};
+    CHECK(ends(region, 64, 64, 0, 4, 0));
+    memset(big, 0xff, largest);
+    CHECK(is_unknown(big, largest, largest, 173966320, 10872896, 0));
+    rule = (struct rule){LOCKER_VERSION_2, 0xA5E840};
+    CHECK(is_unknown(big, largest, largest, largest - 16, 16777216, 0));
+    CHECK(ends(big, largest, largest - 16, 0, 16777215, 0));
+    memset(big, 0, largest);
+    memset(region, 0, 64);
+    CHECK(ends(region, 64, 64, 0, 4, 8));
+    CHECK(ends(region, 10, 10, 0, 1, 8));
+    CHECK(ends(region, 9, 9, 0, 1, 0));
+}
+
+/* A number below `under`, the next of a row that is the same in each run. */
+static size_t draw(size_t under) {
+    static uint64_t row = 8;
+    row = row * UINT64_C(6364136223846793005) + UINT64_C(1442695040888963407);
+    return (size_t)(row >> 33) % under;
+}
+
+static void draw_bytes(uint8_t *at, size_t length) {
+    for (size_t i = 0; i < length; i++) at[i] = (uint8_t)draw(256);
+}
+
+/* An entry of any type at p, whole, with a bit changed or with a length that reaches far; where the next one may stand,
+ * in it or behind it. */
+static size_t draw_entry(uint8_t *region, size_t p) {
+    unsigned kind = draw(12) == 0 ? 3 : (unsigned)draw(3), ns = (unsigned)draw(64);
+    size_t length = put_entry(region, p, kind, kind, ns, key, draw(24), value, kind == 2 ? 0 : draw(24));
+    size_t harm = draw(6);
+    if (harm == 0) region[p + draw(length)] ^= (uint8_t)(1 << draw(8));
+    if (harm == 1) put_number(region + p + 4, draw(65536), 2);
+    if (harm == 2) put_number(region + p + 4 + draw(3), draw(256), 2);
+    return draw(3) == 0 ? p + 16 : p + up(length);
+}
+
+/* A region of lines of all sorts, from 0 to `most` bytes, with room for an entry behind it. */
+static size_t draw_region(uint8_t *region, size_t most) {
+    memset(region, 0, most + 80);
+    for (size_t p = 0, next; p < most; p = next) {
+        size_t sort = draw(8);
+        next = p + 16;
+        if (sort == 1) draw_bytes(region + p, 16);
+        if (sort == 2) memset(region + p, 0xff, 16);
+        if (sort > 2) next = draw_entry(region, p);
+    }
+    return draw(most + 1);
+}
+
+/* Many small regions. What becomes of their lines is counted, so that none of it is missed. */
+static void durable_end_of_any(void) {
+    enum { REGIONS = 50000, MOST = 160, OFTEN = 1000 };
+    static const struct rule told[] = {{1, 7}, {2, 7}, {2, 8}, {2, 0xA5E83C}, {2, UINT64_MAX}, {3, 7}};
+    uint8_t region[MOST + 80];
+    memset(met, 0, sizeof met);
+    for (size_t i = 0; i < REGIONS; i++) {
+        rule = told[draw(5)];
+        size_t length = draw_region(region, MOST);
+        if (draw(16) == 0) rule = told[draw(6)];
+        durable_end(region, length, draw(2) == 0 ? length : draw(length + 2));
+    }
+    for (int outcome = 0; outcome < OUTCOMES; outcome++) CHECK(met[outcome] > OFTEN);
 }
 
 static void try_durable_end(void) {
     begin("locker_durable_end");
     under_each_rule(durable_end_limits);
     under_neither_version(durable_end_of_a_version);
-    uint64_t told;
-    uint8_t region[64] = {0};
-    for (size_t i = 0; i < LATER; i++) {
-        bool seen = recycle(region, i);
-        CHECK(durable_end(region, 64, 64, &told) == LOCKER_ACCEPTED && told == (seen ? 48 : 0));
-        put_entry(region, 0, 0, 0, 2, (const uint8_t *)"B2", 2, (const uint8_t *)"5", 1);
-        CHECK(durable_end(region, 64, 64, &told) == LOCKER_ACCEPTED && told == (seen ? 48 : 16));
-    }
-    share_marks(region);
-    CHECK(durable_end(region, 64, 64, &told) == LOCKER_ACCEPTED && told == 48);
-    memset(region, 0xff, 64);
-    rule = (struct rule){LOCKER_VERSION_2, 0xA5E83F};
-    CHECK(durable_end(region, 64, 64, &told) == LOCKER_UNKNOWN_TYPE && told == 0);
-    CHECK(durable_end(region, 7, 7, &told) == LOCKER_ACCEPTED && told == 0);
-    rule = (struct rule){LOCKER_VERSION_1, 0xA5E83F};
-    CHECK(durable_end(region, 64, 64, &told) == LOCKER_ACCEPTED && told == 0);
+    durable_end_of_a_card_used_again();
+    durable_end_of_erased();
+    durable_end_of_many_bytes();
+    durable_end_of_any();
 }
 
 /* ---- replay */

@@ -1,5 +1,5 @@
 //! A call, as both sides are asked it, and an answer, as both sides give it.
-pub use original::{Slot, State};
+pub use original::{Effort, Slot, State};
 
 pub const MAX_REGION: usize = 268_435_456;
 pub const HEADER: usize = 4096;
@@ -116,7 +116,7 @@ pub enum Call {
         header: Header,
         bound: u64,
     },
-    /// Header, used bound and durable end of a whole file, which the original's `open` does in one.
+    /// Header, used bound and durable end of a whole file, with what that took, which the original's `open` does in one.
     Boot {
         file: Vec<u8>,
     },
@@ -240,6 +240,14 @@ impl Call {
     pub fn has_version(&self) -> bool {
         matches!(self, Call::ReadHeader { .. } | Call::WriteHeader { .. } | Call::Boot { .. })
             || self.header().is_some()
+    }
+
+    /// What a durable end or a boot took, where its answer tells it.
+    pub fn effort(&self, said: &Said) -> Option<Effort> {
+        match (self, said.number, &said.values[..]) {
+            (Call::DurableEnd { .. } | Call::Boot { .. }, 0 | 10, &[.., lines, bytes]) => Some(Effort { lines, bytes }),
+            _ => None,
+        }
     }
 
     /// The name of an answer to this call, as the table has it.

@@ -1,12 +1,12 @@
-//! Inputs at random: logs, damaged logs, nested entries, entries flush with the region's end, marks without entries, and
-//! traces of the tracker. Most are small, because most that can go wrong does so on a few lines.
+//! Inputs at random: logs, damaged logs, nested entries, entries flush with the region's end, marks without entries,
+//! hostile regions, and traces of the tracker. Most are small, because most that can go wrong does so on a few lines.
 use crate::{
     calls::{up16, Call, Header, Region, Said, Slot, State, Step, HEADER, MAX_REGION},
     rng::Rng,
 };
 
 /// The original's walk reads so many bytes at once.
-const BUFFER_END: usize = 131_072;
+pub const BUFFER_END: usize = 131_072;
 
 /// In version 2 the mark at offset 0 of a file with this ordinal is 0xFFFFFF: a line of filling is a type 3 line there.
 pub const FILLING_ORDINAL: u64 = 0xa5_e83f;
@@ -36,6 +36,36 @@ pub fn entry(header: Header, p: usize, kind: u32, ns: u32, tombstone: bool, key:
     bytes
 }
 
+/// The longest entries that can be: of data, and a tombstone.
+const LONGEST_DATA: usize = 10 + 2 * 65_535;
+const LONGEST_TOMBSTONE: usize = 8 + 65_535;
+
+/// The first eight bytes of an entry that takes all of the room, or as much as one can.
+fn reaching(header: Header, p: usize, room: usize) -> [u8; 8] {
+    let line = (p / 16) as u32;
+    let tombstone = room < 10 || (line % 3 == 2 && room <= LONGEST_TOMBSTONE);
+    let (kind, klen, vlen) = if tombstone {
+        (2, room.saturating_sub(8), 0)
+    } else {
+        let body = room.min(LONGEST_DATA) - 10;
+        (line % 2, body / 2, body - body / 2)
+    };
+    let word = (header.mark(p as u64) | (line % 64) << 24 | kind << 30).to_le_bytes();
+    let lengths = (klen as u32 | (vlen as u32) << 16).to_le_bytes();
+    [word, lengths].concat().try_into().unwrap()
+}
+
+/// A region in which the walk has most to do: each line has its mark, and an entry that reaches as far as one can, mostly
+/// to the region's last byte. All of these have their checksum in the two last bytes.
+pub fn hostile(header: Header, length: usize, last: [u8; 2]) -> Vec<u8> {
+    let mut region = vec![0; length];
+    for p in (0..length).step_by(16) {
+        put(&mut region, p, &reaching(header, p, length - p));
+    }
+    put(&mut region, length.saturating_sub(2), &last);
+    region
+}
+
 /// Puts as many of the bytes over the region as it has room for.
 pub fn put(region: &mut [u8], at: usize, bytes: &[u8]) {
     if at < region.len() {
@@ -50,8 +80,9 @@ pub fn fresh_state() -> State {
 
 pub struct Draw {
     pub rng: Rng,
-    /// Versions and ordinals have a stream of their own.
+    /// Versions and ordinals have a stream of their own, and so have hostile regions.
     versions: Rng,
+    efforts: Rng,
     /// What the call is given, and whose marks its region is built with.
     header: Header,
     built: Header,
@@ -67,6 +98,7 @@ impl Draw {
         Draw {
             rng: Rng::new(seed),
             versions: Rng::new(!seed),
+            efforts: Rng::new(seed ^ (1 << 63)),
             header: PLAIN,
             built: PLAIN,
             trace: fresh_state(),
@@ -89,6 +121,7 @@ impl Draw {
         self.header = self.some_header();
         self.built = self.builder();
         let call = self.some_call();
+        let call = self.with_effort(call);
         (self.rng, self.header, self.built) = (next, PLAIN, PLAIN);
         call
     }
@@ -307,6 +340,64 @@ impl Draw {
             outer[last] ^= 1;
         }
         put(region, line, &outer);
+    }
+
+    /// A third of the calls that tell what they took have a hostile region, drawn from a stream of its own, so that a
+    /// seed's other calls are the same.
+    fn with_effort(&mut self, call: Call) -> Call {
+        std::mem::swap(&mut self.rng, &mut self.efforts);
+        let call = match call {
+            Call::DurableEnd { region: Region::Dense(_), header, .. } if self.rng.once_in(3) => {
+                let region = self.hostile_region();
+                let bound = self.bound(region.len());
+                Call::DurableEnd { region: Region::Dense(region), header, bound }
+            }
+            Call::Boot { mut file } if file.len() >= HEADER && self.rng.once_in(3) => {
+                file.truncate(HEADER);
+                file.extend(self.hostile_region());
+                Call::Boot { file }
+            }
+            call => call,
+        };
+        std::mem::swap(&mut self.rng, &mut self.efforts);
+        call
+    }
+
+    /// A hostile region, with a few lines that are otherwise.
+    fn hostile_region(&mut self) -> Vec<u8> {
+        let length = (match self.rng.below(400) {
+            0 => self.rng.within(4096, 20_000),
+            1..=30 => self.rng.within(200, 2000),
+            _ => self.rng.within(0, 200),
+        }) as usize;
+        let last = (self.rng.next() as u16).to_le_bytes();
+        let mut region = hostile(self.built, length, last);
+        for _ in 0..self.rng.pick(&[0, 0, 1, 1, 2, 3, 5]) {
+            self.disturb_line(&mut region);
+        }
+        region
+    }
+
+    /// A line of a hostile region made otherwise: another mark, type 3, an entry one byte past the region's end or of any
+    /// length, or one that verifies, alone, flush with the region's end or around others.
+    fn disturb_line(&mut self, region: &mut [u8]) {
+        let length = region.len();
+        let line = self.some_line(length);
+        match self.rng.below(10) {
+            0..=1 if line < length => region[line] ^= 1 << self.rng.below(8),
+            2 if line + 3 < length => region[line + 3] |= 0xc0,
+            3 => put(region, line, &reaching(self.built, line, length + 1 - line)),
+            4..=5 => {
+                let lengths = [self.rng.below(40) as u16, self.rng.below(40) as u16].map(u16::to_le_bytes).concat();
+                put(region, line + 4, &lengths);
+            }
+            6 => self.flush_with_end(region),
+            7 => self.nested(region, line),
+            _ => {
+                let bytes = self.some_entry(line, 100);
+                put(region, line, &bytes);
+            }
+        }
     }
 
     pub fn bytes_of_region(&mut self) -> Vec<u8> {

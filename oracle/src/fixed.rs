@@ -1,7 +1,9 @@
 //! Inputs that are the same in every run: short ones, all of them, and every limit with its neighbours.
+use std::collections::BTreeSet;
+
 use crate::{
     calls::{up16, Call, Header, Region, Slot, State, Step, HEADER, MAX_REGION},
-    draw::{self, fresh_state, mark_zero, put, FILLING_ORDINAL, NO_VERSIONS},
+    draw::{self, fresh_state, mark_zero, put, BUFFER_END, FILLING_ORDINAL, NO_VERSIONS},
 };
 
 type Calls = Box<dyn Iterator<Item = Call>>;
@@ -611,7 +613,135 @@ fn large_files() -> Calls {
     }))
 }
 
-/// All calls that stand for themselves.
+// ---- what a durable end takes
+
+/// One file of version 1 and two of version 2, in the last of which the third line has the mark 0, so that zeros match it.
+fn counted_files() -> [Header; 3] {
+    [FIRST, second(5), second(FILLING_ORDINAL - 1)]
+}
+
+/// A hostile region in which no checksum agrees: the two last bytes are none of its entries' sums.
+pub fn hostile(header: Header, length: usize) -> Vec<u8> {
+    let bytes = draw::hostile(header, length, [0, 0]);
+    let summed = (0..length.saturating_sub(7)).step_by(16).map(|p| &bytes[p..length - 2]);
+    let sums: BTreeSet<u16> = summed.map(|entry| crc16_ibm3740_fast::hash(entry) as u16).collect();
+    let no_sum = (0x0101..=u16::MAX).find(|sum| !sums.contains(sum)).unwrap();
+    draw::hostile(header, length, no_sum.to_le_bytes())
+}
+
+/// The durable end at some bounds, and the boot from a file with that region.
+fn ends(header: Header, bytes: &[u8], bounds: impl IntoIterator<Item = u64>) -> Vec<Call> {
+    let end = |bound| Call::DurableEnd { region: region(bytes.to_vec()), header, bound };
+    let boot = Call::Boot { file: [&head(header)[..], bytes].concat() };
+    bounds.into_iter().map(end).chain([boot]).collect()
+}
+
+/// Zeros but for twenty hostile lines around the place where the original's first read buffer ends, each with the longest
+/// entry that can be.
+fn around_buffer_end(header: Header) -> Vec<u8> {
+    let mut bytes = draw::hostile(header, 280_000, [1, 1]);
+    bytes[..BUFFER_END - 160].fill(0);
+    bytes[BUFFER_END + 160..].fill(0);
+    bytes
+}
+
+/// Hostile regions of all short lengths, of some of them every bound, and one whose walk sums 134 million bytes.
+fn hostile_regions() -> Calls {
+    let short = counted_files().into_iter().flat_map(|header| {
+        (0..=130usize).flat_map(move |length| {
+            let n = length as u64;
+            let every = matches!(length, 7 | 8 | 16 | 40 | 47..=49 | 55..=57 | 64);
+            ends(header, &hostile(header, length), if every { 0..=n + 1 } else { n..=n })
+        })
+    });
+    let around = counted_files().into_iter().flat_map(|header| {
+        let bytes = around_buffer_end(header);
+        ends(header, &bytes, [BUFFER_END as u64, BUFFER_END as u64 + 8, bytes.len() as u64])
+    });
+    let long = [4096, 4999, 65_536].into_iter().map(|length| {
+        let header = second(5);
+        Call::DurableEnd { region: region(hostile(header, length)), header, bound: length as u64 }
+    });
+    Box::new(short.chain(around).chain(long))
+}
+
+/// Entries behind lines of zeros or hostile ones, flush with the region's end or one or two bytes past it, the checksum
+/// right or wrong, and the bound at the region's end or just past it, at the entry's line or just past that.
+fn last_entries() -> Calls {
+    Box::new(counted_files().into_iter().flat_map(|header| {
+        [0, 16, 48].into_iter().flat_map(move |p| {
+            [0, 1, 2].into_iter().flat_map(move |kind| {
+                [0, 1, 3, 7, 30].into_iter().flat_map(move |klen| last_entry(header, p, kind, klen))
+            })
+        })
+    }))
+}
+
+fn last_entry(header: Header, p: usize, kind: u32, klen: usize) -> Vec<Call> {
+    let right = draw::entry(header, p, kind, 1, kind == 2, &vec![b'k'; klen], &[]);
+    let mut wrong = right.clone();
+    wrong[3] ^= 1;
+    let mut calls = Vec::new();
+    for written in [right, wrong] {
+        for length in written.len() - 2..=written.len() {
+            let n = p + length;
+            for before in [vec![0; n], draw::hostile(header, n, [0, 0])] {
+                let bytes = [&before[..p], &written[..length]].concat();
+                calls.extend(ends(header, &bytes, [n, n + 1, p, p + 1].map(|bound| bound as u64)));
+            }
+        }
+    }
+    calls
+}
+
+/// Type 3 behind tried lines: whole, its checksum right or wrong, or past the region's end; with 8 bytes left and with 7;
+/// below the bound, at it and past it.
+fn unknown_types() -> Calls {
+    let mut calls = Vec::new();
+    for header in counted_files() {
+        for p in [0, 16, 32, 48, 80] {
+            let right = draw::entry(header, p, 3, 1, false, b"key", b"and value");
+            let mut wrong = right.clone();
+            wrong[3] ^= 1;
+            for left in [7, 8, 9, 12, 21, 22, 40, 64] {
+                for written in [&right, &wrong] {
+                    let mut bytes = draw::hostile(header, p + left, [0, 0]);
+                    put(&mut bytes, p, written);
+                    let (at, n) = (p as u64, bytes.len() as u64);
+                    calls.extend(ends(header, &bytes, [n, at, at + 1, n - 1]));
+                }
+            }
+        }
+    }
+    Box::new(calls.into_iter())
+}
+
+/// An entry with others in its value, of which the first, the last or none holds type 3: whole, one byte past the region's
+/// end, with a wrong checksum, and with hostile lines behind it. Where it verifies no line inside it is tried.
+fn nested_entries() -> Calls {
+    let mut calls = Vec::new();
+    for header in counted_files() {
+        for (count, unknown) in (1..=4).flat_map(|count| [0, 1, count].map(|unknown| (count, unknown))) {
+            let mut value = vec![0; 16 * count + 8];
+            for line in 1..=count {
+                let kind = if line == unknown { 3 } else { line as u32 % 3 };
+                put(&mut value, 16 * line - 8, &draw::entry(header, 16 * line, kind, 1, kind == 2, b"in", b""));
+            }
+            let outer = draw::entry(header, 0, 1, 2, false, b"outer", &value);
+            let n = outer.len();
+            let mut wrong = outer.clone();
+            wrong[3] ^= 1;
+            let mut followed = draw::hostile(header, n + 40, [0, 0]);
+            put(&mut followed, 0, &outer);
+            for bytes in [&outer[..], &outer[..n - 1], &wrong, &followed] {
+                calls.extend(ends(header, bytes, [1, 16, 17, bytes.len() as u64]));
+            }
+        }
+    }
+    Box::new(calls.into_iter())
+}
+
+/// All calls that stand for themselves. New groups stand behind the others: of these a sample is recorded by place.
 pub fn calls() -> impl Iterator<Item = Call> {
     let groups: Vec<Calls> = vec![
         large_regions(),
@@ -639,6 +769,10 @@ pub fn calls() -> impl Iterator<Item = Call> {
         filled_lines(),
         recycled_cards(),
         large_files(),
+        hostile_regions(),
+        last_entries(),
+        unknown_types(),
+        nested_entries(),
     ];
     groups.into_iter().flatten()
 }

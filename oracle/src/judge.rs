@@ -9,10 +9,10 @@ use std::{
     sync::atomic::{AtomicU32, Ordering},
 };
 
-use original::{Buffer, Failure, File, Found, Tracker};
+use original::{Buffer, Failure, File, Found, Opened, Tracker};
 
 use crate::{
-    calls::{eight, up16, Call, Header, Region, Said, State, Step, HEADER, MAX_REGION},
+    calls::{eight, up16, Call, Effort, Header, Region, Said, State, Step, HEADER, MAX_REGION},
     draw::put,
     library::{listing, window},
     paper::{ascends, fits},
@@ -59,6 +59,9 @@ const READ_BUFFER: u64 = 128 * 1024;
 
 /// A walk that is short enough to be asked of a region that is too large.
 const SHORT_WALK: u64 = 1 << 20;
+
+/// Document 02's request 8: bytes checksummed are at most so many for each line tried.
+const MOST_BYTES_A_LINE: u64 = 131_078;
 
 /// Lengths of keys and values that the original is asked about.
 pub const LONGEST: usize = 200_000;
@@ -209,8 +212,8 @@ fn in_either_version(file: &[u8], parting: &'static str, ask: impl Fn(&[u8]) -> 
         return same(said);
     }
     note(&format!("refused with {}", said.number));
-    if let Some(version) = right.values.first_mut() {
-        *version = 2;
+    if right.number == 0 {
+        right.values[0] = 2;
     }
     parted(right, parting)
 }
@@ -332,9 +335,13 @@ impl Judge {
         }
         in_either_version(file, VERSION_2_BOOTED, |file| {
             fs::write(self.folder.join("data_0000"), file).expect("the file's bytes");
-            match original::open(&self.folder, 1 << 20) {
-                Ok(opened) => Ok(Said::values(&[1, opened.ordinal, opened.bound, opened.used])),
-                Err(failure) => Ok(Said::refused(number_of(&failure)?)),
+            let (answer, Effort { lines, bytes }) = original::counted(|| original::open(&self.folder, 1 << 20));
+            match answer {
+                Ok(Opened { ordinal, bound, used }) => Ok(Said::values(&[1, ordinal, bound, used, lines, bytes])),
+                Err(failure) => Ok(match number_of(&failure)? {
+                    10 => Said { number: 10, ..Said::values(&[lines, bytes]) },
+                    number => Said::refused(number),
+                }),
             }
         })
     }
@@ -525,12 +532,17 @@ impl Judge {
                 }
                 return parted(Said::refused(4), "durable end: bound over the region (walked to its end)");
             }
-            match file.durable_end(bound) {
-                Ok(end) => same(Said::values(&[end])),
+            // This one call is counted, and none of those that look for the place.
+            let (answer, Effort { lines, bytes }) = original::counted(|| file.durable_end(bound));
+            if lines > bound.div_ceil(16) || bytes > MOST_BYTES_A_LINE * lines {
+                return Err(format!("durable end: over the most that it may take: {lines} lines, {bytes} bytes"));
+            }
+            match answer {
+                Ok(end) => same(Said::values(&[end, lines, bytes])),
                 Err(failure) => {
                     let number = number_of(&failure)?;
                     let place = least_line(0, bound, |bound| file.durable_end(bound).is_err());
-                    same(Said { number, values: vec![place], ..Default::default() })
+                    same(Said { number, ..Said::values(&[place, lines, bytes]) })
                 }
             }
         })

@@ -1,6 +1,6 @@
 //! The proved library, called through its C interface. A call that refuses has to leave its out parameters and the lent
 //! bytes alone, which is looked at here: an answer that doesn't keep to it gets a number that no table has.
-use locker_log::sys::{self, RawEntry};
+use locker_log::sys::{self, RawEffort, RawEntry};
 
 use crate::calls::{Call, Header, Region, Said, HEADER, MAX_REGION};
 
@@ -18,6 +18,7 @@ const UNTOUCHED_ENTRY: RawEntry = RawEntry {
     kplace: UNTOUCHED,
     end: UNTOUCHED,
 };
+const UNTOUCHED_EFFORT: RawEffort = RawEffort { lines: UNTOUCHED, bytes: UNTOUCHED };
 /// The number of an answer that wrote where it shouldn't have.
 const WROTE: u32 = 900;
 
@@ -146,8 +147,34 @@ fn used_bound(region: &[u8]) -> Said {
     }
 }
 
+/// What a durable end writes to.
+pub struct EndOuts {
+    pub end: u64,
+    pub place: u64,
+    pub effort: RawEffort,
+}
+
+impl EndOuts {
+    pub fn untouched() -> Self {
+        EndOuts { end: UNTOUCHED, place: UNTOUCHED, effort: UNTOUCHED_EFFORT }
+    }
+
+    /// The answer with this number. Document 02's request 8: lines tried and bytes checksummed come with the end, and with
+    /// 10 beside its place.
+    pub fn said(self, number: u32) -> Said {
+        let EndOuts { end, place, effort } = self;
+        let (end_left, place_left) = (end == UNTOUCHED, place == UNTOUCHED);
+        match number {
+            0 if place_left => Said::values(&[end, effort.lines, effort.bytes]),
+            10 if end_left => Said { number, ..Said::values(&[place, effort.lines, effort.bytes]) },
+            1..=9 | 11.. if end_left && place_left && effort == UNTOUCHED_EFFORT => Said::refused(number),
+            _ => Said::refused(WROTE),
+        }
+    }
+}
+
 fn durable_end(region: &[u8], header: Header, bound: u64) -> Said {
-    let (mut end, mut place) = (UNTOUCHED, UNTOUCHED);
+    let mut outs = EndOuts::untouched();
     // SAFETY: as above.
     let number = unsafe {
         sys::locker_durable_end(
@@ -156,16 +183,12 @@ fn durable_end(region: &[u8], header: Header, bound: u64) -> Said {
             header.version,
             header.ordinal,
             bound as usize,
-            &mut end,
-            &mut place,
+            &mut outs.end,
+            &mut outs.place,
+            &mut outs.effort,
         )
     };
-    match number {
-        0 if place == UNTOUCHED => Said::values(&[end]),
-        10 if end == UNTOUCHED => Said { number: 10, values: vec![place], ..Default::default() },
-        number if number != 0 && end == UNTOUCHED && place == UNTOUCHED => Said::refused(number),
-        _ => Said::refused(WROTE),
-    }
+    outs.said(number)
 }
 
 fn read_header(bytes: &[u8]) -> Said {
@@ -201,11 +224,16 @@ fn boot(file: &[u8]) -> Said {
         return bound;
     }
     let header = Header { version: head.values[0], ordinal: head.values[1] };
-    let end = durable_end(region, header, bound.values[0]);
-    if end.number != 0 {
-        return Said::refused(end.number);
+    booted(header, bound.values[0], durable_end(region, header, bound.values[0]))
+}
+
+/// What a boot answers after its durable end. With 10 the original tells no place.
+pub fn booted(header: Header, bound: u64, end: Said) -> Said {
+    match (end.number, &end.values[..]) {
+        (0, values) => Said::values(&[&[header.version, header.ordinal, bound], values].concat()),
+        (10, [_, effort @ ..]) => Said { number: 10, ..Said::values(effort) },
+        (number, _) => Said::refused(number),
     }
-    Said::values(&[header.version, header.ordinal, bound.values[0], end.values[0]])
 }
 
 impl Library {

@@ -1,10 +1,12 @@
-//! Document 01 written out as a plain program, with document 02's requests 4 to 6 and 10: a third opinion, and the place
-//! where `oracle/awake` plants its slips. With no slip it has to agree with the original as the library does.
+//! Document 01 written out as a plain program, with document 02's requests 4 to 6, 8 and 10: a third opinion, and the
+//! place where `oracle/awake` plants its slips. With no slip it has to agree with the original as the library does.
 use std::collections::BTreeSet;
+
+use locker_log::sys::RawEffort;
 
 use crate::{
     calls::{eight, up16, Call, Header, Region, Said, Slot, State, Step, HEADER, MAX_REGION},
-    library::{listing, window, Side},
+    library::{booted, listing, window, EndOuts, Side},
 };
 
 /// Every slip that can be planted: its name, and what a program with it does.
@@ -72,6 +74,27 @@ pub const SLIPS: &[(&str, &str)] = &[
     ("bound-off-by-one", "used bound: the last byte isn't looked at"),
     ("end-unrounded", "durable end: isn't rounded up"),
     ("end-capped", "durable end: is capped at the region's length"),
+    ("effort-short-line", "lines tried: one with fewer than 8 bytes left counts too"),
+    ("effort-marked-alone", "lines tried: only those with the right mark count"),
+    ("effort-refused-left-out", "lines tried: the refused line of 10 doesn't count"),
+    ("effort-line-twice", "lines tried: the line behind a found entry counts twice"),
+    ("effort-every-line", "lines tried: every line below the bound counts, those inside found entries too"),
+    ("effort-type-3", "bytes checksummed: type 3 adds bytes where it would be a whole entry"),
+    ("effort-past-end", "bytes checksummed: an entry that ends past the region adds its length less 2"),
+    ("effort-cut-at-end", "bytes checksummed: an entry that ends past the region adds what lies in it"),
+    ("effort-within-bound", "bytes checksummed: an entry that ends past the bound adds nothing"),
+    ("effort-verified-alone", "bytes checksummed: only verified entries add bytes"),
+    ("effort-unverified-alone", "bytes checksummed: verified entries add nothing"),
+    ("effort-whole-length", "bytes checksummed: the entry's whole length"),
+    ("effort-aligned-length", "bytes checksummed: the entry's length rounded up to a line"),
+    ("effort-tombstone-as-data", "bytes checksummed: a tombstone adds as much as data without a value"),
+    ("effort-last-walk", "durable end: the counts of its last walk alone"),
+    ("effort-swapped", "durable end: lines and bytes are swapped"),
+    ("effort-16-bits", "durable end: the counts are taken modulo 2^16"),
+    ("effort-left-out-with-10", "durable end: no counts with 10"),
+    ("effort-with-2", "durable end: counts of 0 and 0 are written with 2"),
+    ("effort-with-3", "durable end: counts of 0 and 0 are written with 3"),
+    ("effort-with-4", "durable end: counts of 0 and 0 are written with 4"),
     ("tracker-number-reused", "record: the next number isn't taken"),
     ("tracker-limit-included", "checkpoint: the limit itself is counted"),
     ("tracker-cursor-offset", "checkpoint: the least offset, whatever the ordinal"),
@@ -111,7 +134,7 @@ pub struct Paper {
 enum Line {
     Pass,
     Unknown,
-    Bad { length: u64 },
+    Bad { length: u64, whole: bool },
     Entry { kind: u64, ns: u64, klen: u64, vlen: u64, length: u64 },
 }
 
@@ -391,7 +414,7 @@ impl Paper {
         let room = if self.slips("walk-within-bound") { bound.saturating_sub(p) } else { rest.len() as u64 };
         let whole = length <= room.min(rest.len() as u64);
         if !whole || u16_at(rest, length as usize - 2) != u64::from(self.hash(&rest[..length as usize - 2])) {
-            return Line::Bad { length };
+            return Line::Bad { length, whole };
         }
         if kind == 3 {
             return Line::Unknown;
@@ -402,7 +425,39 @@ impl Paper {
         Line::Entry { kind, ns: u64::from(word >> 24 & 63), klen, vlen, length }
     }
 
+    /// Document 02's request 8: what the trial of a line adds to lines tried and bytes checksummed. `rest` is the region
+    /// from the line on, of which so many bytes lie below the bound.
+    fn effort(&self, line: &Line, rest: &[u8], below: u64) -> RawEffort {
+        let as_data = 10 + u16_at(rest, 4) + u16_at(rest, 6);
+        let tried = match line {
+            Line::Pass => !self.slips("effort-marked-alone"),
+            Line::Unknown => !self.slips("effort-refused-left-out"),
+            _ => true,
+        };
+        let summed = match *line {
+            Line::Entry { length, .. } if !self.slips("effort-unverified-alone") => length,
+            Line::Bad { length, whole: true } if !self.slips("effort-verified-alone") => length,
+            Line::Bad { length, whole: false } if self.slips("effort-past-end") => length,
+            Line::Bad { whole: false, .. } if self.slips("effort-cut-at-end") => rest.len() as u64 + 2,
+            Line::Unknown if self.slips("effort-type-3") && as_data <= rest.len() as u64 => as_data,
+            _ => return RawEffort { lines: tried.into(), bytes: 0 },
+        };
+        let bytes = match self.slip {
+            "effort-within-bound" if summed > below => 0,
+            "effort-whole-length" => summed,
+            "effort-aligned-length" => up16(summed),
+            "effort-tombstone-as-data" if rest[3] >> 6 == 2 => summed,
+            _ => summed - 2,
+        };
+        RawEffort { lines: tried.into(), bytes }
+    }
+
     fn walk(&self, region: &[u8], header: Header, bound: u64, offset: u64) -> Said {
+        self.counted_walk(region, header, bound, offset, &mut RawEffort::default())
+    }
+
+    /// The walk, which adds what it takes.
+    fn counted_walk(&self, region: &[u8], header: Header, bound: u64, offset: u64, effort: &mut RawEffort) -> Said {
         let total = region.len() as u64;
         let number = self.refusal(header, region.len(), (bound > total).then_some(4));
         if number != 0 {
@@ -415,16 +470,21 @@ impl Paper {
         let last = bound + u64::from(self.slips("walk-bound-included"));
         let mut p = up16(offset);
         while p < last && p + least <= total {
-            match self.line(region, header, p, bound) {
+            let line = self.line(region, header, p, bound);
+            let added = self.effort(&line, &region[p as usize..], bound.saturating_sub(p));
+            effort.lines += added.lines;
+            effort.bytes += added.bytes;
+            match line {
                 Line::Unknown => return Said { number: 10, values: vec![p], ..Default::default() },
                 Line::Entry { kind, ns, klen, vlen, length } => {
                     return self.found(region, [p, kind, ns, klen, vlen, length])
                 }
                 Line::Bad { .. } if self.slips("walk-stops") => break,
-                Line::Bad { length } if self.slips("walk-jumps") => p += up16(length),
+                Line::Bad { length, .. } if self.slips("walk-jumps") => p += up16(length),
                 _ => p += 16,
             }
         }
+        effort.lines += u64::from(p < bound && self.slips("effort-short-line"));
         Said::values(&[0])
     }
 
@@ -460,18 +520,57 @@ impl Paper {
     }
 
     fn durable_end(&self, region: &[u8], header: Header, bound: u64) -> Said {
-        let mut end = 0;
-        let mut offset = 0;
+        let mut outs = EndOuts::untouched();
+        let number = self.write_end(region, header, bound, &mut outs);
+        outs.said(number)
+    }
+
+    fn write_end(&self, region: &[u8], header: Header, bound: u64, outs: &mut EndOuts) -> u32 {
+        let total = region.len() as u64;
+        let (mut end, mut offset, mut effort) = (0, 0, RawEffort::default());
         loop {
-            let said = self.walk(region, header, bound, offset);
-            if said.number != 0 {
-                return said;
+            if self.slips("effort-last-walk") {
+                effort = RawEffort::default();
             }
-            if said.values[0] == 0 {
-                return Said::values(&[if self.slips("end-capped") { end.min(region.len() as u64) } else { end }]);
+            let said = self.counted_walk(region, header, bound, offset, &mut effort);
+            match (said.number, said.values.first()) {
+                (0, Some(1)) => {
+                    offset = said.values[8];
+                    end = if self.slips("end-unrounded") { offset } else { up16(offset) };
+                    let goes_on = up16(offset) < bound && up16(offset) + 8 <= total;
+                    effort.lines += u64::from(goes_on && self.slips("effort-line-twice"));
+                }
+                (0, _) => {
+                    outs.end = if self.slips("end-capped") { end.min(total) } else { end };
+                    outs.effort = self.told(effort, bound);
+                    return 0;
+                }
+                (10, Some(&place)) => {
+                    outs.place = place;
+                    if !self.slips("effort-left-out-with-10") {
+                        outs.effort = self.told(effort, bound);
+                    }
+                    return 10;
+                }
+                (number, _) => {
+                    let with = [("effort-with-2", 2), ("effort-with-3", 3), ("effort-with-4", 4)];
+                    if with.contains(&(self.slip, number)) {
+                        outs.effort = RawEffort::default();
+                    }
+                    return number;
+                }
             }
-            offset = said.values[8];
-            end = if self.slips("end-unrounded") { offset } else { up16(offset) };
+        }
+    }
+
+    /// The counts as they are told in the end.
+    fn told(&self, effort: RawEffort, bound: u64) -> RawEffort {
+        let RawEffort { lines, bytes } = effort;
+        match self.slip {
+            "effort-every-line" => RawEffort { lines: bound.div_ceil(16), bytes },
+            "effort-swapped" => RawEffort { lines: bytes, bytes: lines },
+            "effort-16-bits" => RawEffort { lines: lines % (1 << 16), bytes: bytes % (1 << 16) },
+            _ => effort,
         }
     }
 
@@ -487,10 +586,7 @@ impl Paper {
         };
         let bound = self.used_bound(&file[HEADER..]).values[0];
         let end = self.durable_end(&file[HEADER..], header, bound.min((file.len() - HEADER) as u64));
-        match end.number {
-            0 => Said::values(&[head.values[0], head.values[1], bound, end.values[0]]),
-            number => Said::refused(number),
-        }
+        booted(Header { version: head.values[0], ordinal: head.values[1] }, bound, end)
     }
 
     // ---- replay and start

@@ -5,8 +5,8 @@ use std::collections::BTreeMap;
 use crate::{
     calls::{Call, Header, Region, Said},
     codec::{write_said, write_state, Record, Records},
-    draw::{entry, fresh_state, Draw, FILLING_ORDINAL, NO_VERSIONS},
-    fixed::{self, second, FIRST},
+    draw::{self, entry, fresh_state, Draw, FILLING_ORDINAL, NO_VERSIONS},
+    fixed::{self, hostile, second, FIRST},
     judge::{Judge, RECORDED},
     library::Side,
     table::grouped,
@@ -205,6 +205,24 @@ fn versions() -> Vec<Call> {
     calls
 }
 
+/// Durable ends of hostile regions: short ones, type 3 behind such lines, and ten lines whose entries reach over 65,536
+/// bytes, nearly all zeros.
+fn efforts() -> Vec<Call> {
+    let mut calls = Vec::new();
+    for header in [FIRST, second(5)] {
+        let mut unknown = hostile(header, 104);
+        unknown[64 + 3] |= 0xc0;
+        let mut far = draw::hostile(header, 65_536, [0, 0]);
+        far[160..].fill(0);
+        let regions = [hostile(header, 8), hostile(header, 200), unknown, far];
+        let whole = regions.into_iter().map(|bytes| (bytes.len(), bytes));
+        for (bound, bytes) in whole.chain([(41, hostile(header, 57))]) {
+            calls.push(Call::DurableEnd { region: Region::Dense(bytes), header, bound: bound as u64 });
+        }
+    }
+    calls
+}
+
 pub fn record(path: &str, seed: u64) -> std::io::Result<()> {
     let mut recorder = Recorder { judge: Judge::new(), out: Vec::new(), records: 0, met: BTreeMap::new() };
     // Calls at random first, so that the fixed ones, which are many and alike, only fill up.
@@ -214,7 +232,7 @@ pub fn record(path: &str, seed: u64) -> std::io::Result<()> {
         recorder.take(&call);
     }
     fixed::calls().step_by(7).take(60_000).for_each(|call| recorder.take(&call));
-    extra().iter().chain(&versions()).for_each(|call| recorder.write(call, false));
+    extra().iter().chain(&versions()).chain(&efforts()).for_each(|call| recorder.write(call, false));
     for i in 0..TRACES as u64 {
         recorder.trace(&mut Draw::new(seed + 1 + i));
     }

@@ -1,12 +1,15 @@
 //! The smallest call that still parts the two sides: runs of bytes shorter, bytes zero, numbers lower, states emptier, as
 //! long as one of these helps.
+use std::time::{Duration, Instant};
+
 use crate::{
     calls::{Call, Region, Slot, State},
     codec::Parts,
 };
 
-/// How often a smaller call may be asked.
+/// How often a smaller call may be asked, and how long: a hostile region takes up to a second.
 const PATIENCE: usize = 20_000;
+const LONGEST: Duration = Duration::from_secs(120);
 
 fn smaller_numbers(number: u64) -> Vec<u64> {
     let mut smaller =
@@ -99,10 +102,11 @@ fn smaller(parts: &Parts) -> Vec<Parts> {
 pub fn shrink(call: &Call, mut parts_them: impl FnMut(&Call) -> bool) -> Call {
     let mut least = call.clone();
     let mut tried = 0;
+    let start = Instant::now();
     loop {
         let next = smaller(&least.parts()).into_iter().filter_map(|parts| parts.call()).find(|call| {
             tried += 1;
-            tried <= PATIENCE && parts_them(call)
+            tried <= PATIENCE && start.elapsed() < LONGEST && parts_them(call)
         });
         match next {
             Some(call) => least = call,

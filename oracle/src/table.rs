@@ -2,7 +2,7 @@
 use std::collections::BTreeMap;
 
 use crate::{
-    calls::{Call, Said, OPERATIONS},
+    calls::{Call, Effort, Said, OPERATIONS},
     judge::Judged,
 };
 
@@ -14,6 +14,10 @@ pub struct Table {
     answers: BTreeMap<(&'static str, String), u64>,
     partings: BTreeMap<&'static str, u64>,
     pub calls: u64,
+    /// Calls that told what they took, those of them that summed bytes and found no entry, and all that they took.
+    counted: u64,
+    in_vain: u64,
+    taken: Effort,
 }
 
 impl Table {
@@ -22,6 +26,13 @@ impl Table {
         *self.answers.entry((call.operation(), call.answer_name(&judged.said))).or_default() += 1;
         if let Some(name) = judged.parting {
             *self.partings.entry(name).or_default() += 1;
+        }
+        if let Some(Effort { lines, bytes }) = call.effort(&judged.said) {
+            self.counted += 1;
+            self.taken.lines += lines;
+            self.taken.bytes += bytes;
+            let no_entry = judged.said.number == 0 && matches!(judged.said.values[..], [.., 0, _, _]);
+            self.in_vain += u64::from(no_entry && bytes > 0);
         }
     }
 
@@ -64,6 +75,15 @@ impl Table {
             - self.partings.get(PART).copied().unwrap_or(0);
         println!("{:>11}  the original gave the answer", grouped(self.calls - parted - by_rule));
         println!("{:>11}  checksums and parts, held to the catalogue's rule and to a plain slice", grouped(by_rule));
+        println!();
+        let Effort { lines, bytes } = self.taken;
+        println!(
+            "{:>11}  durable ends and boots, their counts held to the original's own: {} lines, {} bytes",
+            grouped(self.counted),
+            grouped(lines),
+            grouped(bytes)
+        );
+        println!("{:>11}  of them summed bytes and found no entry", grouped(self.in_vain));
     }
 
     fn calls_of(&self, operation: &str) -> u64 {

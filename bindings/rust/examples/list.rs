@@ -20,7 +20,7 @@ fn list(file: &[u8]) -> Result<(), Box<dyn std::error::Error>> {
             String::from_utf8_lossy(entry.value())
         );
     }
-    println!("durable end {}", region.durable_end(bound)?);
+    println!("durable end {}", region.durable_end(bound)?.end);
     Ok(())
 }
 

@@ -15,7 +15,8 @@
 //! let bound = region.used_bound().unwrap();
 //! let last = region.listing(bound).last().unwrap().unwrap();
 //! assert_eq!((last.key(), last.value()), (&b"A7"[..], &b"9"[..]));
-//! assert_eq!(region.durable_end(bound), Ok(16));
+//! let durable = region.durable_end(bound).unwrap();
+//! assert_eq!((durable.end, durable.effort.lines, durable.effort.bytes), (16, 1, 11));
 //!
 //! // the card is used again, as file 8: what file 7 has left isn't seen
 //! let later = Region::new(&bytes, Header { version: 2, ordinal: 8 });
@@ -28,13 +29,13 @@ mod refusal;
 pub mod sys;
 mod tracker;
 
-pub use refusal::{Refusal, WalkError};
+pub use refusal::{EndError, Refusal, WalkError};
 pub use tracker::{
     least_along, ActiveFile, Cells, Delta, Finished, Least, Progress, Reserved, Slot, Tracker, NO_LIMIT, SHARDS,
     WAITING,
 };
 
-use sys::RawEntry;
+use sys::{RawEffort, RawEntry};
 
 /// The length of a file's header.
 pub const HEADER_LENGTH: usize = 4096;
@@ -203,6 +204,27 @@ pub struct Entry<'a> {
     at: RawEntry,
 }
 
+/// What a durable end took, whatever the bytes are: at most one line for each 16 bytes of the bound, rounded up, and at
+/// most 131,078 bytes for each line.
+#[derive(Clone, Copy, Debug, PartialEq, Eq, Hash)]
+pub struct Effort {
+    /// How many lines it tried, which is to compare a line's mark: each that it came to below the bound, with at least
+    /// eight bytes left in the region. The lines that a verified entry covers it passes over.
+    pub lines: u64,
+    /// How many bytes it checksummed. A tried line with the right mark, type 0, 1 or 2 and its whole entry within the
+    /// region adds the entry's length less 2, whether its checksum agrees or not; any other line adds nothing.
+    pub bytes: u64,
+}
+
+/// Where writing goes on in a region, and what it took to find that out.
+#[derive(Clone, Copy, Debug, PartialEq, Eq, Hash)]
+pub struct DurableEnd {
+    /// The last verified entry's end rounded up to a line, or 0.
+    pub end: usize,
+    /// The lines tried and the bytes checksummed.
+    pub effort: Effort,
+}
+
 /// The entries of a region from offset 0 on, each with the region's lifetime; a refusal ends it.
 #[derive(Clone, Debug)]
 pub struct Listing<'a> {
@@ -226,10 +248,12 @@ impl<'a> Region<'a> {
         Refusal::check(number).map(|()| bound as usize)
     }
 
-    /// The last verified entry's end rounded up to a line, or 0. Refuses 2, 3, 4, then 10 with its place.
-    pub fn durable_end(self, bound: usize) -> Result<usize, WalkError> {
+    /// The last verified entry's end rounded up to a line, or 0, and what it took. Refuses 2, 3, 4, then 10 with its
+    /// place and with what it took.
+    pub fn durable_end(self, bound: usize) -> Result<DurableEnd, EndError> {
         let (mut end, mut place) = (0, 0);
-        // SAFETY: one slice, and two numbers of our own.
+        let mut effort = RawEffort::default();
+        // SAFETY: one slice, and two numbers and an effort of our own.
         let number = unsafe {
             sys::locker_durable_end(
                 self.bytes.as_ptr(),
@@ -239,9 +263,10 @@ impl<'a> Region<'a> {
                 bound,
                 &mut end,
                 &mut place,
+                &mut effort,
             )
         };
-        WalkError::check(number, place).map(|()| end as usize)
+        EndError::check(number, end, place, effort)
     }
 
     /// The next verified entry from `offset` on, up to `bound`. Refuses 2, 3, 4, then 10 with its place.

@@ -2,6 +2,9 @@
 
 use core::fmt;
 
+use crate::sys::RawEffort;
+use crate::{DurableEnd, Effort};
+
 macro_rules! refusals {
     ($($(#[$doc:meta])* $name:ident = $number:literal, $words:literal;)*) => {
         /// Why an operation refused. A refusal changes no byte and no state.
@@ -105,3 +108,41 @@ impl fmt::Display for WalkError {
 }
 
 impl core::error::Error for WalkError {}
+
+/// Why a durable end refused: as any operation, or at a line of unknown type, with its place and with what it took to get
+/// there.
+#[derive(Clone, Copy, Debug, PartialEq, Eq, Hash)]
+pub enum EndError {
+    /// 2, 3 or 4: no line was tried.
+    Refused(Refusal),
+    /// 10: the right mark with type 3.
+    UnknownAt {
+        /// The refused line.
+        place: usize,
+        /// The lines tried, the refused one among them, and the bytes checksummed before it.
+        effort: Effort,
+    },
+}
+
+impl EndError {
+    /// The library tells the end with 0, the place with 10, and the effort with both.
+    pub(crate) fn check(number: u32, end: u64, place: u64, effort: RawEffort) -> Result<DurableEnd, EndError> {
+        let effort = Effort { lines: effort.lines, bytes: effort.bytes };
+        match WalkError::check(number, place) {
+            Ok(()) => Ok(DurableEnd { end: end as usize, effort }),
+            Err(WalkError::UnknownAt(place)) => Err(EndError::UnknownAt { place, effort }),
+            Err(WalkError::Refused(refusal)) => Err(EndError::Refused(refusal)),
+        }
+    }
+}
+
+impl fmt::Display for EndError {
+    fn fmt(&self, f: &mut fmt::Formatter<'_>) -> fmt::Result {
+        match self {
+            EndError::Refused(refusal) => refusal.fmt(f),
+            EndError::UnknownAt { place, .. } => write!(f, "refused 10 at {place}"),
+        }
+    }
+}
+
+impl core::error::Error for EndError {}

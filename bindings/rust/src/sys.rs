@@ -18,6 +18,14 @@ pub struct RawEntry {
     pub end: u64,
 }
 
+/// What a durable end took, as the library tells it: `struct locker_effort`.
+#[repr(C)]
+#[derive(Clone, Copy, Debug, Default, PartialEq, Eq)]
+pub struct RawEffort {
+    pub lines: u64,
+    pub bytes: u64,
+}
+
 /// A checkpoint as the library tells it: `struct locker_progress`.
 #[repr(C)]
 #[derive(Clone, Copy, Debug, Default, PartialEq, Eq)]
@@ -51,6 +59,9 @@ const _: () = {
     assert!(offset_of!(RawEntry, vplace) == 40);
     assert!(offset_of!(RawEntry, kplace) == 48);
     assert!(offset_of!(RawEntry, end) == 56);
+    assert!(size_of::<RawEffort>() == 16);
+    assert!(offset_of!(RawEffort, lines) == 0);
+    assert!(offset_of!(RawEffort, bytes) == 8);
     // struct locker_slot
     assert!(size_of::<Slot>() == 24);
     assert!(offset_of!(Slot, number) == 0);
@@ -141,6 +152,7 @@ extern "C" {
         bound: usize,
         end: *mut u64,
         place: *mut u64,
+        effort: *mut RawEffort,
     ) -> u32;
     pub fn locker_replay_data(klen: usize, vlen: usize, maximum: usize) -> u32;
     pub fn locker_replay_tombstone(klen: usize, maximum: usize) -> u32;

@@ -1,8 +1,8 @@
 //! Every operation of the data file at its limits and refusals, and document 01's own examples, in a version 1 file.
 
 use locker_log::{
-    append_data, append_tombstone, hash, read_header, update, write_header, Entry, Header, Kind, Refusal, Region,
-    WalkError, HEADER_LENGTH,
+    append_data, append_tombstone, hash, read_header, update, write_header, DurableEnd, Effort, EndError, Entry,
+    Header, Kind, Refusal, Region, WalkError, HEADER_LENGTH,
 };
 
 const LARGEST: usize = 268_435_456;
@@ -13,6 +13,11 @@ fn sample(bytes: &mut [u8]) -> usize {
     let used = append_data(bytes, FILE, 0, Kind::Insert, 1, b"A7", b"9").unwrap();
     let used = append_data(bytes, FILE, used, Kind::Update, 1, b"A7", b"10").unwrap();
     append_tombstone(bytes, FILE, used, 1, b"A7").unwrap()
+}
+
+/// A durable end, after so many lines and bytes.
+fn ends(end: usize, lines: u64, bytes: u64) -> Result<DurableEnd, EndError> {
+    Ok(DurableEnd { end, effort: Effort { lines, bytes } })
 }
 
 #[test]
@@ -67,7 +72,7 @@ fn document_01s_sample_lists() {
             (32, Kind::Tombstone, 1, b"A7".to_vec(), b"".to_vec(), 42),
         ]
     );
-    assert_eq!(region.durable_end(bound), Ok(48));
+    assert_eq!(region.durable_end(bound), ends(48, 3, 31));
 }
 
 #[test]
@@ -87,7 +92,7 @@ fn a_torn_entry_costs_itself_alone() {
     let region = Region::new(&bytes, FILE);
     let offsets: Vec<_> = region.listing(48).map(|e| e.unwrap().offset()).collect();
     assert_eq!(offsets, [0, 32]);
-    assert_eq!(region.durable_end(48), Ok(48));
+    assert_eq!(region.durable_end(48), ends(48, 3, 19));
 }
 
 #[test]
@@ -100,8 +105,10 @@ fn type_three_ends_the_walk_with_its_place() {
     assert!(listing.next().unwrap().is_ok());
     assert_eq!(listing.next().unwrap().unwrap_err(), WalkError::UnknownAt(16));
     assert!(listing.next().is_none());
-    assert_eq!(region.durable_end(48), Err(WalkError::UnknownAt(16)));
+    let refused = EndError::UnknownAt { place: 16, effort: Effort { lines: 2, bytes: 11 } };
+    assert_eq!(region.durable_end(48), Err(refused));
     assert_eq!(WalkError::UnknownAt(16).to_string(), "refused 10 at 16");
+    assert_eq!(refused.to_string(), "refused 10 at 16");
 }
 
 #[test]
@@ -172,7 +179,7 @@ fn bounds_at_their_limits() {
     sample(&mut bytes);
     let region = Region::new(&bytes, FILE);
     assert_eq!(region.walk(65, 0).unwrap_err(), WalkError::Refused(Refusal::BoundPastRegion));
-    assert_eq!(region.durable_end(65), Err(WalkError::Refused(Refusal::BoundPastRegion)));
+    assert_eq!(region.durable_end(65), Err(EndError::Refused(Refusal::BoundPastRegion)));
     assert!(region.walk(64, usize::MAX).unwrap().is_none());
     assert!(region.walk(64, 33).unwrap().is_none());
     assert_eq!(region.walk(33, 17).unwrap().unwrap().offset(), 32);
@@ -193,7 +200,7 @@ fn the_thirteen_byte_region() {
     let region = Region::new(&bytes[..13], FILE);
     assert_eq!(region.used_bound(), Ok(13));
     assert_eq!(region.listing(13).count(), 1);
-    assert_eq!(region.durable_end(13), Ok(16));
+    assert_eq!(region.durable_end(13), ends(16, 1, 11));
     assert!(region.read_at(0, 13).is_ok());
 }
 
@@ -204,11 +211,12 @@ fn the_largest_region_and_one_byte_more() {
     assert_eq!(used, LARGEST);
     let region = Region::new(&bytes[..LARGEST], FILE);
     assert_eq!(region.used_bound(), Ok(LARGEST));
-    assert_eq!(region.durable_end(LARGEST), Ok(LARGEST));
+    // zeros seem to be an entry of 10 bytes where the mark is 0
+    assert_eq!(region.durable_end(LARGEST), ends(LARGEST, 16_777_216, 8 + 12));
     assert_eq!(region.walk(LARGEST, 0).unwrap().unwrap().key(), b"edge12");
     let large = Region::new(&bytes, FILE);
     assert_eq!(large.used_bound(), Err(Refusal::RegionTooLarge));
-    assert_eq!(large.durable_end(0), Err(WalkError::Refused(Refusal::RegionTooLarge)));
+    assert_eq!(large.durable_end(0), Err(EndError::Refused(Refusal::RegionTooLarge)));
     assert_eq!(large.walk(LARGEST + 2, 0).unwrap_err(), WalkError::Refused(Refusal::RegionTooLarge));
     assert_eq!(large.read_at(1, 0).unwrap_err(), Refusal::RegionTooLarge);
     assert_eq!(append_tombstone(&mut bytes, FILE, 1, 64, b""), Err(Refusal::RegionTooLarge));

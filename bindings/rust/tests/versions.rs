@@ -1,7 +1,8 @@
 //! Both versions of a file: its marks, what a card that is used again still shows, and versions that are neither.
 
 use locker_log::{
-    append_data, append_tombstone, read_header, write_header, Header, Kind, Refusal, Region, WalkError, HEADER_LENGTH,
+    append_data, append_tombstone, read_header, write_header, DurableEnd, Effort, EndError, Header, Kind, Refusal,
+    Region, WalkError, HEADER_LENGTH,
 };
 
 /// Neither version, though some are if they are cut to one, two or four bytes.
@@ -13,6 +14,11 @@ fn v1(ordinal: u64) -> Header {
 
 fn v2(ordinal: u64) -> Header {
     Header { version: 2, ordinal }
+}
+
+/// A durable end, after so many lines and bytes.
+fn ends(end: usize, lines: u64, bytes: u64) -> Result<DurableEnd, EndError> {
+    Ok(DurableEnd { end, effort: Effort { lines, bytes } })
 }
 
 /// Document 01's sample in a file with this header: insert `9`, update `10` and a tombstone of A7 in namespace 1.
@@ -79,7 +85,7 @@ fn a_card_that_is_used_again() {
     for other in [v2(6), v2(8), v2(0), v2((1 << 24) + 8), v2(u64::MAX), v1(7), v1((1 << 24) + 7)] {
         let region = Region::new(&old, other);
         assert!(offsets(&old, other).is_empty(), "{other:?}");
-        assert_eq!(region.durable_end(64), Ok(0));
+        assert_eq!(region.durable_end(64), ends(0, 4, 0));
         for place in [0, 16, 32] {
             assert_eq!(region.read_at(place, 64).unwrap_err(), Refusal::WrongMark);
         }
@@ -87,7 +93,7 @@ fn a_card_that_is_used_again() {
         let mut bytes = old;
         append_data(&mut bytes, other, 0, Kind::Insert, 2, b"B2", b"5").unwrap();
         assert_eq!(offsets(&bytes, other), [0]);
-        assert_eq!(Region::new(&bytes, other).durable_end(64), Ok(16));
+        assert_eq!(Region::new(&bytes, other).durable_end(64), ends(16, 4, 11));
         assert_eq!(offsets(&bytes, v2(7)), [16, 32]);
     }
     // what version 2 is for: in version 1 the old entries come back behind the new one
@@ -116,7 +122,7 @@ fn neither_version_is_refused_before_all_else() {
         let region = Region::new(&bytes, file);
         for bound in [48, 65] {
             assert_eq!(region.walk(bound, 0).unwrap_err(), WalkError::Refused(Refusal::WrongHeader));
-            assert_eq!(region.durable_end(bound), Err(WalkError::Refused(Refusal::WrongHeader)));
+            assert_eq!(region.durable_end(bound), Err(EndError::Refused(Refusal::WrongHeader)));
         }
         for place in [0, 1] {
             assert_eq!(region.read_at(place, 64).unwrap_err(), Refusal::WrongHeader);
@@ -146,9 +152,11 @@ fn a_region_erased_to_ff() {
         (v1(0xa5_e83f), None),
     ] {
         let region = Region::new(&erased, file);
-        let wanted = unknown.map_or(Ok(0), |place| Err(WalkError::UnknownAt(place)));
         assert_eq!(region.used_bound(), Ok(64));
-        assert_eq!(region.durable_end(64), wanted, "{file:?}");
-        assert_eq!(region.walk(64, 0).map(|entry| entry.map_or(0, |e| e.end())), wanted, "{file:?}");
+        let refused = |place| EndError::UnknownAt { place, effort: Effort { lines: place as u64 / 16 + 1, bytes: 0 } };
+        let end = unknown.map_or(ends(0, 4, 0), |place| Err(refused(place)));
+        assert_eq!(region.durable_end(64), end, "{file:?}");
+        let found = unknown.map_or(Ok(None), |place| Err(WalkError::UnknownAt(place)));
+        assert_eq!(region.walk(64, 0).map(|entry| entry.map(|e| e.offset())), found, "{file:?}");
     }
 }

@@ -8,6 +8,16 @@ use Rattle.answers.specs.Answers.{Said, refused, unlessRefused}
 use Rattle.answers.specs.Versions.{isVersion, versionRefusal}
 use Rattle.answers.proofs.Orders.{not-true, not-false}
 
+-- the refusal itself: none, or 2
+module _ (version : ℕ) {known : Bool} (tested : known ≡ isVersion version) where
+  pub no-refusal : not known ≡ false → versionRefusal version ≡ 0
+  unfolding versionRefusal
+  no-refusal h = simp (sym tested ∙ not-false known h)
+
+  pub refusal-2 : not known ≡ true → versionRefusal version ≡ 2
+  unfolding versionRefusal
+  refusal-2 h = simp (sym tested ∙ not-true known h)
+
 module _ (version : ℕ) {A : Type 0} (answer : Said A) where
   pub right-version : isVersion version ≡ true → unlessRefused (versionRefusal version) answer ≡ answer
   unfolding versionRefusal

@@ -1,15 +1,16 @@
 -- What stands at a line: an entry from its fields, and the five facts of a line that verifies.
 -- Assumes nothing.
-use Prim.Native.Nat.{ℕ, _+_, _-_, _<_, _≤_}
+use Prim.Native.Nat.{ℕ, _+_, _-_, _^_, _<_, _≤_}
 use mathlib.Core.Path.{_≡_, refl}
 use mathlib.Core.List.{List}
 use mathlib.Core.Bool.{Bool, true, false, _&&_}
 use native.Mathlib.Omega.{arith}
-use borrow.Author.Tests.{leb-true, ltb-true, ltb-false, eqb-true, le-leb, lt-ltb, eq-eqb, ne-eqb}
-use lib.ListN.{length, take, drop}
+use borrow.Author.Tests.{leb-true, ltb-true, ltb-false, eqb-true, le-leb, lt-leb, lt-ltb, eq-eqb, ne-eqb}
+use lib.ListN.{length, take, drop, getD}
 use lib.Dec.{ltb, eqb}
 use Rattle.answers.specs.Answers.{pickNumber}
 use Rattle.fields.specs.Numbers.{field}
+use Rattle.fields.proofs.Widths.{field-lt}
 use Rattle.checksum.specs.Catalogue.{crc16}
 use Rattle.entry.specs.Words.{wordMark, wordNamespace, wordKind}
 use Rattle.entry.specs.Layout.{headLength, lengthOf, placed, sumPlace, entryAt, agrees, intact, verifies}
@@ -54,6 +55,29 @@ entry-sum s p = placed-sum p _ _ _ _
 pub entry-long : (s : List ℕ) (p : ℕ) → p + 8 ≤ entryAt s p .end
 unfolding entryAt placed
 entry-long s p = let h = head-bounds (wordKind (field 4 s p)) in omega arith
+
+-- an entry is eight bytes long at the least, whatever its fields
+pub length-least : (kind klen vlen : ℕ) → 8 ≤ lengthOf kind klen vlen
+unfolding lengthOf
+length-least kind klen vlen = let h = head-bounds kind in omega arith
+
+-- from its first byte to its end it has the length that its fields say
+pub entry-length : (s : List ℕ) (p : ℕ) → entryAt s p .end ≡ entryAt s p .offset + lengthOf (entryAt s p .kind) (entryAt s p .klen) (entryAt s p .vlen)
+unfolding entryAt placed
+entry-length s p = placed-end p _ (wordNamespace (field 4 s p)) _ _
+
+-- and of bytes no entry is longer than 131,080: two lengths of two bytes, and ten more
+pub entry-longest : (s : List ℕ) (p : ℕ) → ((i : ℕ) → getD s i 0 < 256) → lengthOf (entryAt s p .kind) (entryAt s p .klen) (entryAt s p .vlen) ≤ 131080
+unfolding entryAt placed lengthOf
+entry-longest s p small =
+    let h = head-bounds (wordKind (field 4 s p)) in
+    let k = field-lt 2 s (p + 4) small in
+    let v = vlen-lt (eqb (wordKind (field 4 s p)) 2) (field-lt 2 s (p + 6) small) in
+    omega arith
+  where
+    vlen-lt : (b : Bool) {v : ℕ} → v < 256 ^ 2 → pickNumber b 0 v < 256 ^ 2
+    vlen-lt true h = omega arith
+    vlen-lt false h = h
 
 -- a data entry has all its fields in the data layout, and behind them its value, its key and its checksum
 pub data-entry : (s : List ℕ) (p : ℕ) → wordKind (field 4 s p) ≤ 1 → placed p (wordKind (field 4 s p)) (wordNamespace (field 4 s p)) (field 2 s (p + 4)) (field 2 s (p + 6)) ≡ entryAt s p
@@ -106,6 +130,15 @@ below kind h n = go (ltb kind 3) refl
     go : (b : Bool) → ltb kind 3 ≡ b → kind < 3
     go true e = ltb-true kind 3 e
     go false e = absurd (n (omega (arith, ltb-false kind 3 e)))
+
+-- a type that isn't 3 is 0, 1 or 2
+pub kind-known : (word : ℕ) → (wordKind word ≡ 3 → ⊥) → wordKind word < 3
+kind-known word k = let four = kind-lt word in below (wordKind word) four k
+
+-- an entry that runs past the end isn't intact
+pub intact-past : (s : List ℕ) (e : Entry) → length s < e .end → intact s e ≡ false
+unfolding intact
+intact-past s e h = simp (lt-leb _ _ h)
 
 -- past the tests of mark and type, a line verifies where its entry is intact
 pub verifies-intact : (mark : ℕ → ℕ) (s : List ℕ) (p : ℕ) → p + 8 ≤ length s → wordMark (field 4 s p) ≡ mark p → (wordKind (field 4 s p) ≡ 3 → ⊥) → verifies mark s p ≡ intact s (entryAt s p)

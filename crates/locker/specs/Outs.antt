@@ -1,5 +1,5 @@
 -- What an export answers and leaves behind: document 01's number, 0 for accepted, and the values of the answer in its out parameters.
--- A refusal leaves every out parameter as it was, but for the place that goes with 10.
+-- A refusal leaves every out parameter as it was, but for the place that goes with 10, and the effort of a durable end.
 -- Assumes nothing.
 use Prim.Native.Nat.{ℕ}
 use mathlib.Core.List.{List, [], _∷_}
@@ -14,6 +14,9 @@ use Rattle.append.specs.Bytes.{Item, encoded}
 use Rattle.append.specs.Append.{appendOf}
 use Rattle.replay.specs.Start.{Started, file, nothing}
 use Rattle.scan.specs.Walk.{Step, found, ended, walkIn}
+use Rattle.scan.specs.declared.Effort.{Effort}
+use Rattle.tail.specs.Tail.{durableIn}
+use Rattle.tail.specs.Efforts.{effortIn}
 
 -- "(10 also its place)": the place that goes with the refusal, or what stood there
 abbrev pub placeOut : {A : Type 0} → Said A → ℕ → ℕ
@@ -39,6 +42,16 @@ abbrev pub foundOut : Said Step → ℕ → ℕ
 foundOut (accepted (found e)) old = 1
 foundOut (accepted ended) old = 0
 foundOut (refused n values) old = old
+
+-- lines tried and bytes checksummed as two numbers, in the order of their struct
+abbrev pub two : Effort → List ℕ
+two effort = effort .lines ∷ effort .bytes ∷ []
+
+-- they come with an accepted answer, and with 10, the one refusal that has a place: "With refusal 10 the counts .. are reported too."
+abbrev pub effortOut : {A : Type 0} → Said A → Effort → List ℕ → List ℕ
+effortOut (accepted a) effort old = two effort
+effortOut (refused n []) effort old = old
+effortOut (refused n (p ∷ values)) effort old = two effort
 
 -- the start file's place and 1, or the old place and 0 where there is none
 abbrev pub startOut : Said Started → ℕ → ℕ
@@ -67,3 +80,10 @@ pub record WalkOut (version ordinal : ℕ) (region : List ℕ) (bound offset r :
   pub tells : entry ≡ walkedOut (walkIn version ordinal region bound offset) old
   pub finds : found ≡ foundOut (walkIn version ordinal region bound offset) oldFound
   pub places : place ≡ placeOut (walkIn version ordinal region bound offset) oldPlace
+
+-- the durable end: the number, the end, the place that goes with 10, and the effort
+pub record EndOut (version ordinal : ℕ) (region : List ℕ) (bound r oldEnd end oldPlace place : ℕ) (old effort : List ℕ) : Type 0 where
+  pub says : r ≡ numberSaid (durableIn version ordinal region bound)
+  pub tells : end ≡ valueOut (durableIn version ordinal region bound) oldEnd
+  pub places : place ≡ placeOut (durableIn version ordinal region bound) oldPlace
+  pub counts : effort ≡ effortOut (durableIn version ordinal region bound) (effortIn version ordinal region bound) old

@@ -2,7 +2,7 @@
 // include/locker_log.h. Numbers pass as themselves and slices as a pointer and a length; the values
 // of an answer go into out parameters. Each function answers document 01's number, 0 for accepted,
 // and on a refusal leaves every out parameter and every lent byte as it was, but for the place that
-// goes with 10.
+// goes with 10, and the effort of a durable end that meets it.
 ghost use mathlib.Core.Path.{_≡_};
 ghost use mathlib.Core.Bool.{true};
 ghost use mathlib.Core.List.{[]};
@@ -15,10 +15,10 @@ ghost use Rattle.read.specs.Reading.{readIn};
 ghost use Rattle.append.specs.Bytes.{item};
 ghost use Rattle.append.specs.Append.{dataKind};
 ghost use Rattle.scan.specs.Parts.{partOf, partStart};
-ghost use Rattle.tail.specs.Tail.{usedOf, durableIn};
+ghost use Rattle.tail.specs.Tail.{usedOf};
 ghost use Rattle.replay.specs.Limits.{dataLimits, tombstoneLimits};
 ghost use Rattle.replay.specs.Start.{startOf};
-ghost use Rattle.locker.specs.Outs.{startOut, startFound, placeOut, eight, entryOut, AppendOut, WalkOut};
+ghost use Rattle.locker.specs.Outs.{startOut, startFound, eight, entryOut, AppendOut, WalkOut, two, EndOut};
 ghost use Rattle.tracker.specs.State.{view};
 ghost use Rattle.tracker.specs.Sound.{sound};
 ghost use Rattle.tracker.specs.Least.{leastOf};
@@ -29,6 +29,7 @@ use entry::Entry;
 use header::HeaderRead;
 use read::Reading;
 use replay::StartAnswer;
+use scan::Effort;
 use scan::Walked;
 use tail::DurableEnd;
 use tail::UsedBound;
@@ -225,6 +226,13 @@ pub extern "C" fn locker_used_bound(region: &[u8], bound: &mut u64) -> u32
     }
 }
 
+// Lines tried and bytes checksummed as two numbers, in the order of their struct.
+fn two(effort: Effort) -> [u64; 2]
+    ensures { λ r. ⌜ r ≡ two effort ⌝ }
+{
+    [effort.lines as u64, effort.bytes as u64]
+}
+
 #[no_mangle]
 pub extern "C" fn locker_durable_end(
     region: &[u8],
@@ -233,18 +241,23 @@ pub extern "C" fn locker_durable_end(
     bound: usize,
     end: &mut u64,
     place: &mut u64,
+    effort: &mut [u64; 2],
 ) -> u32
-    ensures { λ r. ⌜ (r ≡ numberSaid (durableIn version ordinal (now (region .entry)) bound)) × (now (end .exit) ≡ valueOut (durableIn version ordinal (now (region .entry)) bound) (now (end .entry))) × (now (place .exit) ≡ placeOut (durableIn version ordinal (now (region .entry)) bound) (now (place .entry))) ⌝ }
+    ensures { λ r. ⌜ EndOut version ordinal (now (region .entry)) bound r (now (end .entry)) (now (end .exit)) (now (place .entry)) (now (place .exit)) (now (effort .entry)) (now (effort .exit)) ⌝ }
 {
     let answer = tail::durable_end(region, version, ordinal, bound);
-    match answer {
+    let spent = answer.effort;
+    let told = answer.end;
+    match told {
         DurableEnd::End(n) => {
             *end = n as u64;
+            *effort = two(spent);
             0
         }
         DurableEnd::Refused(refusal) => answers::number(refusal),
         DurableEnd::UnknownAt(p) => {
             *place = p as u64;
+            *effort = two(spent);
             answers::number(Refusal::UnknownType)
         }
     }

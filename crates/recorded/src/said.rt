@@ -6,7 +6,9 @@ use entry::Entry;
 use header::HeaderRead;
 use read::Reading;
 use replay::StartAnswer;
+use scan::Effort;
 use scan::Walked;
+use tail::CountedEnd;
 use tail::DurableEnd;
 use tail::UsedBound;
 
@@ -107,11 +109,20 @@ pub fn used_bound(answer: UsedBound) -> Said {
     }
 }
 
-pub fn durable_end(answer: DurableEnd) -> Said {
-    match answer {
-        DurableEnd::End(end) => one(end as u64),
+// Lines tried and bytes checksummed, behind the end or the place.
+fn with_effort(before: Said, effort: Effort) -> Said {
+    with(with(before, effort.lines as u64), effort.bytes as u64)
+}
+
+pub fn durable_end(answer: CountedEnd) -> Said {
+    let effort = answer.effort;
+    let end = answer.end;
+    match end {
+        DurableEnd::End(n) => with_effort(one(n as u64), effort),
         DurableEnd::Refused(refusal) => refused(refusal),
-        DurableEnd::UnknownAt(place) => with(refused(Refusal::UnknownType), place as u64),
+        DurableEnd::UnknownAt(place) => {
+            with_effort(with(refused(Refusal::UnknownType), place as u64), effort)
+        }
     }
 }
 

@@ -1,5 +1,7 @@
 pub mod Trials
 pub mod Walks
 pub mod Listings
+pub mod Counting
+pub mod Efforts
 pub mod Only
 pub mod Within

@@ -18,7 +18,7 @@ module _ (mark : ℕ → ℕ) (s : List ℕ) where
   lines bound offset = (bound + 15 - aligned offset) / 16
 
   -- each entry takes a line at least
-  falls : (bound offset n : ℕ) {e : Entry} → Stands mark s (aligned offset) (bound + 15) e → lines bound offset ≤ suc n → lines bound (e .end) ≤ n
+  pub falls : (bound offset n : ℕ) {e : Entry} → Stands mark s (aligned offset) (bound + 15) e → lines bound offset ≤ suc n → lines bound (e .end) ≤ n
   unfolding aligned
   falls bound offset n z h = omega arith
 

@@ -1,16 +1,18 @@
 -- No second answer fits the contracts of the used bound and of the durable end.
 -- Assumes nothing.
 use Prim.Native.Nat.{ℕ}
-use mathlib.Core.Path.{_≡_, sym, ap, _∙_}
+use mathlib.Core.Path.{_≡_, sym, ap, ap₂, _∙_}
 use native.Mathlib.Omega.{arith}
 use Rattle.answers.specs.Numbers.{numberOf}
 use Rattle.answers.specs.OneAnswer.{OneAnswer}
 use Rattle.answers.proofs.Cases.{same-number}
+use Rattle.scan.specs.declared.Effort.{Effort}
 use Rattle.tail.specs.Tail.{saidUsed, saidDurable}
 use Rattle.tail.specs.declared.UsedBound.{UsedBound}
 use Rattle.tail.specs.declared.UsedBound.the-variants as bound-said
 use Rattle.tail.specs.declared.DurableEnd.{DurableEnd}
 use Rattle.tail.specs.declared.DurableEnd.the-variants as end-said
+use Rattle.tail.specs.declared.CountedEnd.{CountedEnd}
 use Rattle.tail.proofs.used_bound.Kinds as used-bound-kinds
 use Rattle.tail.proofs.used_bound.Reads as used-bound
 use Rattle.tail.proofs.durable_end.Kinds as durable-end-kinds
@@ -34,8 +36,15 @@ durable-once (end-said.UnknownAt p) (end-said.End n) e = absurd (let z : _≡_ {
 durable-once (end-said.UnknownAt p) (end-said.Refused q) e = absurd (let z : _≡_ {A = ℕ} 0 1 = cc in omega arith)
 durable-once (end-said.UnknownAt p) (end-said.UnknownAt k) e = cc
 
+-- and the effort stands beside them
+abbrev counted : DurableEnd → Effort → CountedEnd
+counted end effort = record { end = end; effort = effort }
+
+pub counted-once : (a b : CountedEnd) → saidDurable (a .end) ≡ saidDurable (b .end) → a .effort ≡ b .effort → a ≡ b
+counted-once a b e f = ap₂ counted (durable-once (a .end) (b .end) e) f
+
 pub used-bound-only : OneAnswer 1 used-bound-kinds.ps used-bound-kinds.r used-bound.Post
 used-bound-only κs args r s x y hr hs = used-once r s (hr ∙ sym hs)
 
 pub durable-end-only : OneAnswer 1 durable-end-kinds.ps durable-end-kinds.r durable-end.Post
-durable-end-only κs args r s x y hr hs = durable-once r s (hr ∙ sym hs)
+durable-end-only κs args r s x y hr hs = counted-once r s (hr .0 ∙ sym (hs .0)) (hr .1 .0 ∙ sym (hs .1 .0))

@@ -11,10 +11,12 @@ use Rattle.fields.specs.Numbers.{aligned}
 use Rattle.entry.specs.declared.Entry.{Entry}
 use Rattle.scan.specs.Walk.{Step, said, walk, walkOf}
 use Rattle.scan.specs.Listing.{grow, list}
+use Rattle.scan.specs.Efforts.{plus, countedWalk, listEffort}
 use Rattle.scan.specs.declared.Walked.{Walked}
 use Rattle.scan.specs.declared.Walked.the-variants.{Found}
 use Rattle.scan.proofs.Walks.{Stands, walk-found, walkOf-accepted}
 use Rattle.scan.proofs.Listings.{list-step}
+use Rattle.scan.proofs.Efforts.{later, list-effort}
 use Rattle.tail.specs.Tail.{durable}
 
 module _ (mark : ℕ → ℕ) (s : List ℕ) (bound : ℕ) (small : length s ≤ largestRegion) (within : bound ≤ length s) (from : ℕ) (walked : Walked) (answer : said walked ≡ walkOf mark s bound from) where
@@ -31,3 +33,9 @@ module _ (mark : ℕ → ℕ) (s : List ℕ) (bound : ℕ) (small : length s ≤
   turn-rest x q =
       ap (λ (y : Said Step). durable from (grow y (λ (e : Entry). list mark s bound (e .end)))) (ap said (sym q) ∙ sym asked)
       ∙ ap (durable from) (sym (list-step mark s bound from))
+
+  -- and so is what they take
+  pub turn-effort : (x : Walked) → walked ≡ x → plus (countedWalk mark s bound from .effort) (later (said x) (λ (e : Entry). listEffort mark s bound (e .end))) ≡ listEffort mark s bound from
+  turn-effort x q =
+      ap (λ (y : Said Step). plus (countedWalk mark s bound from .effort) (later y (λ (e : Entry). listEffort mark s bound (e .end)))) (ap said (sym q) ∙ sym asked)
+      ∙ sym (list-effort mark s bound from)

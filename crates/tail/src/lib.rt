@@ -1,10 +1,13 @@
 // Document 01, the region's tail: how far it is used, and where the last verified entry ends.
 // `used_bound` and `durable_end` are the public operations, the second for a file of either version
-// (document 02, request 10); the seeded one takes the mark's seed.
+// (document 02, request 10); the seeded one takes the mark's seed. The durable end tells beside its
+// answer how many lines were tried and how many bytes checksummed (request 8).
 ghost use mathlib.Core.Path.{_≡_};
 ghost use Rattle.entry.specs.Words.{markFrom};
 ghost use Rattle.tail.specs.Tail.{saidUsed, usedOf, saidDurable, durableOf, durableIn};
+ghost use Rattle.tail.specs.Efforts.{effortOf, effortIn, Within};
 use answers::Refusal;
+use scan::Effort;
 use scan::Walked;
 
 pub enum UsedBound {
@@ -17,6 +20,25 @@ pub enum DurableEnd {
     Refused(Refusal),
     // Refusal 10: the right mark with type 3, at this place.
     UnknownAt(usize),
+}
+
+// The durable end, or its refusal, and what it took. Refusals 2, 3 and 4 come before any line is
+// tried; with 10 the refused line is counted too.
+pub struct CountedEnd {
+    pub end: DurableEnd,
+    pub effort: Effort,
+}
+
+fn counted(end: DurableEnd, lines: usize, bytes: usize) -> CountedEnd
+    ensures { λ r. ⌜ r ≡ record { end = end; effort = record { lines = lines; bytes = bytes } } ⌝ }
+{
+    CountedEnd {
+        end: end,
+        effort: Effort {
+            lines: lines,
+            bytes: bytes,
+        },
+    }
 }
 
 // One past the last nonzero byte, rounded up to a line. Refusal 3.
@@ -40,42 +62,56 @@ pub fn used_bound(region: &[u8]) -> UsedBound
     UsedBound::Bound(region.len())
 }
 
-pub fn seeded_durable_end(region: &[u8], seed: u32, bound: usize) -> DurableEnd
-    ensures { λ r. ⌜ saidDurable r ≡ durableOf (markFrom seed) (now (region .entry)) bound ⌝ }
+pub fn seeded_durable_end(region: &[u8], seed: u32, bound: usize) -> CountedEnd
+    ensures answer { λ r. ⌜ saidDurable (r .end) ≡ durableOf (markFrom seed) (now (region .entry)) bound ⌝ }
+    ensures effort { λ r. ⌜ r .effort ≡ effortOf (markFrom seed) (now (region .entry)) bound ⌝ }
+    ensures bounded { λ r. ⌜ Within bound (r .effort) ⌝ }
 {
     if answers::LARGEST_REGION < region.len() {
-        return DurableEnd::Refused(Refusal::RegionTooLarge);
+        return counted(DurableEnd::Refused(Refusal::RegionTooLarge), 0, 0);
     }
     if region.len() < bound {
-        return DurableEnd::Refused(Refusal::BoundPastRegion);
+        return counted(DurableEnd::Refused(Refusal::BoundPastRegion), 0, 0);
     }
     let mut from = 0;
+    let mut lines = 0;
+    let mut bytes = 0;
     loop {
-        let walked = scan::seeded_walk(region, seed, bound, from);
+        let spent = Effort {
+            lines: lines,
+            bytes: bytes,
+        };
+        let step = scan::counted_walk(region, seed, bound, from, spent);
+        let effort = step.effort;
+        lines = effort.lines;
+        bytes = effort.bytes;
+        let walked = step.walked;
         match walked {
             Walked::Found(e) => {
                 from = e.end;
             }
             Walked::End => {
-                return DurableEnd::End(fields::align_up(from));
+                return counted(DurableEnd::End(fields::align_up(from)), lines, bytes);
             }
             Walked::Refused(refusal) => {
-                return DurableEnd::Refused(refusal);
+                return counted(DurableEnd::Refused(refusal), lines, bytes);
             }
             Walked::UnknownAt(p) => {
-                return DurableEnd::UnknownAt(p);
+                return counted(DurableEnd::UnknownAt(p), lines, bytes);
             }
         }
     }
 }
 
-// The last verified entry's end, rounded up to a line, in a file of this version and ordinal.
-// Refusals 2, 3, 4, then 10 with its place.
-pub fn durable_end(region: &[u8], version: u64, ordinal: u64, bound: usize) -> DurableEnd
-    ensures { λ r. ⌜ saidDurable r ≡ durableIn version ordinal (now (region .entry)) bound ⌝ }
+// The last verified entry's end, rounded up to a line, in a file of this version and ordinal, with
+// the lines tried and the bytes checksummed. Refusals 2, 3, 4, then 10 with its place.
+pub fn durable_end(region: &[u8], version: u64, ordinal: u64, bound: usize) -> CountedEnd
+    ensures answer { λ r. ⌜ saidDurable (r .end) ≡ durableIn version ordinal (now (region .entry)) bound ⌝ }
+    ensures effort { λ r. ⌜ r .effort ≡ effortIn version ordinal (now (region .entry)) bound ⌝ }
+    ensures bounded { λ r. ⌜ Within bound (r .effort) ⌝ }
 {
     if !answers::is_version(version) {
-        return DurableEnd::Refused(Refusal::WrongHeader);
+        return counted(DurableEnd::Refused(Refusal::WrongHeader), 0, 0);
     }
     let seed = entry::seed_of(version, ordinal);
     seeded_durable_end(region, seed, bound)

@@ -3,6 +3,7 @@
 use answers::Refusal;
 use entry::Entry;
 use libc::STDOUT_FILENO;
+use scan::Effort;
 
 // Any answer but an entry.
 pub enum Said {
@@ -14,6 +15,9 @@ pub enum Said {
     Refused(u64),
     // Refusal 10 with its place.
     UnknownAt(u64),
+    // A durable end, and refusal 10 with its place, each with what it took.
+    Ended(u64, Effort),
+    UnknownAfter(u64, Effort),
     // A refusal that did not leave the lent bytes as found: no trial expects it.
     RefusedChanged(u64),
     Yes,
@@ -42,6 +46,11 @@ pub fn refused_leaving(refusal: Refusal, as_found: bool) -> Said {
     Said::RefusedChanged(answers::number(refusal) as u64)
 }
 
+fn write_effort(effort: Effort) {
+    number(b", lines ", effort.lines as u64);
+    number(b", bytes ", effort.bytes as u64);
+}
+
 fn write_said(said: Said) {
     match said {
         Said::Accepted => write(b"accepted"),
@@ -53,14 +62,22 @@ fn write_said(said: Said) {
         Said::End => write(b"End"),
         Said::Refused(n) => number(b"refused ", n),
         Said::UnknownAt(p) => number(b"refused 10 at ", p),
+        Said::Ended(n, effort) => {
+            number(b"", n);
+            write_effort(effort);
+        }
+        Said::UnknownAfter(p, effort) => {
+            number(b"refused 10 at ", p);
+            write_effort(effort);
+        }
         Said::RefusedChanged(n) => number(b"bytes changed, and refused ", n),
         Said::Yes => write(b"yes"),
         Said::No => write(b"no"),
     }
 }
 
-// Which case an answer is, its number, and a header's version: together they tell any two answers
-// apart.
+// Which case an answer is, its number, a header's version and what a durable end took: together they
+// tell any two answers apart.
 fn case_of(said: Said) -> u64 {
     match said {
         Said::Accepted => 0,
@@ -72,6 +89,8 @@ fn case_of(said: Said) -> u64 {
         Said::Yes => 6,
         Said::No => 7,
         Said::Header(_, _) => 8,
+        Said::Ended(_, _) => 9,
+        Said::UnknownAfter(_, _) => 10,
     }
 }
 
@@ -81,6 +100,8 @@ fn number_of(said: Said) -> u64 {
         Said::Header(_, ordinal) => ordinal,
         Said::Refused(n) => n,
         Said::UnknownAt(p) => p,
+        Said::Ended(n, _) => n,
+        Said::UnknownAfter(p, _) => p,
         Said::RefusedChanged(n) => n,
         _ => 0,
     }
@@ -93,8 +114,26 @@ fn version_of(said: Said) -> u64 {
     }
 }
 
+fn effort_of(said: Said) -> Effort {
+    match said {
+        Said::Ended(_, effort) => effort,
+        Said::UnknownAfter(_, effort) => effort,
+        _ => Effort { lines: 0, bytes: 0 },
+    }
+}
+
+fn same_effort(a: Effort, b: Effort) -> bool {
+    if a.lines != b.lines {
+        return false;
+    }
+    a.bytes == b.bytes
+}
+
 fn same_said(a: Said, b: Said) -> bool {
     if case_of(a) != case_of(b) {
+        return false;
+    }
+    if !same_effort(effort_of(a), effort_of(b)) {
         return false;
     }
     if version_of(a) != version_of(b) {

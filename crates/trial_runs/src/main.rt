@@ -6,6 +6,7 @@
 // Left out: refusal 3, which needs a region of 268,435,457 bytes, more than a program's stack holds;
 // and the mark 0 at offset 173,966,336, which the proved table has.
 mod appends;
+mod efforts;
 mod headers;
 mod judge;
 mod reads;
@@ -21,4 +22,5 @@ fn main() {
     reads::trials();
     thirteen::trials();
     versions::trials();
+    efforts::trials();
 }

@@ -34,7 +34,8 @@ fn walk(region: &[u8], version: u64, ordinal: u64, bound: usize, expected: Said)
 fn durable(region: &[u8], version: u64, ordinal: u64, bound: usize, expected: Said) {
     begin(version, ordinal);
     judge::write(b", durable end");
-    let end = tail::durable_end(region, version, ordinal, bound);
+    let answered = tail::durable_end(region, version, ordinal, bound);
+    let end = answered.end;
     match end {
         DurableEnd::End(n) => answer(Said::Number(n as u64), expected),
         DurableEnd::Refused(refusal) => answer(judge::refused(refusal), expected),

@@ -37,7 +37,8 @@ pub fn one(region: &[u8], bound: usize, from: usize, expected: Entry) {
 pub fn durable(region: &[u8], bound: usize, expected: Said) {
     judge::number(b"  durable end of ", region.len() as u64);
     judge::number(b" bytes, bound ", bound as u64);
-    let end = tail::durable_end(region, sample::VERSION, sample::ORDINAL, bound);
+    let answered = tail::durable_end(region, sample::VERSION, sample::ORDINAL, bound);
+    let end = answered.end;
     match end {
         DurableEnd::End(n) => judge::answer(Said::Number(n as u64), expected),
         DurableEnd::Refused(refusal) => judge::answer(judge::refused(refusal), expected),

@@ -171,7 +171,8 @@ fn compare(region: &[u8], last: &[u8]) {
     write(b"               ");
     handed_out_twice(scan::value_of(region, new), last);
     let answer = tail::durable_end(region, VERSION, ORDINAL, bound);
-    if let DurableEnd::End(end) = answer {
+    let durable = answer.end;
+    if let DurableEnd::End(end) = durable {
         write(b"\ndurable end          ");
         io::print_decimal(STDOUT_FILENO, end as u64);
     }

@@ -27,6 +27,8 @@ const ADDED: u64 = 0x5a_17c0;
 thread_local! {
     /// What is added in the file that is asked about.
     static ADDED_HERE: Cell<u64> = const { Cell::new(ADDED) };
+    /// How many marks were asked for.
+    static MARKS_ASKED: Cell<u64> = const { Cell::new(0) };
 }
 
 /// The marks of the calls from here on: document 01's, and for version 2 those of document 02's request 10, which adds
@@ -35,9 +37,19 @@ pub fn under(version: u64, ordinal: u64) {
     ADDED_HERE.set(ADDED + if version == 2 { ordinal % (1 << 24) } else { 0 });
 }
 
-/// Document 01: the mark at offset p is (p/16 + 0x5A17C0) mod 2^24.
+/// How many marks were asked for on this thread since this was asked last.
+pub fn take_marks_asked() -> u64 {
+    MARKS_ASKED.take()
+}
+
+/// Document 01: the mark at offset p is (p/16 + 0x5A17C0) mod 2^24. The text's walk asks for it once for each line whose
+/// mark it compares.
 pub fn entry_magic_offset(file_offset: u64) -> u32 {
-    let added = if cfg!(feature = "versions") { ADDED_HERE.get() } else { ADDED };
+    let mut added = ADDED;
+    if cfg!(feature = "versions") {
+        MARKS_ASKED.set(MARKS_ASKED.get() + 1);
+        added = ADDED_HERE.get();
+    }
     (((file_offset / FILE_OFFSET_ALIGNMENT) + added) % (1 << 24)) as u32
 }
 

@@ -1,5 +1,7 @@
 //! The original program, compiled from its own text, with document 01's values. `build.rs` finds the text.
 
+#[cfg(feature = "versions")]
+mod effort;
 // The pieces cut out of the text have methods that only the store calls.
 #[allow(dead_code)]
 mod internal;
@@ -18,6 +20,8 @@ mod data_file {
 pub use data_file::probes::{
     caught, create, open, read_header, show_other_panics, Buffer, File, Found, Opened, Slot, State, Tracker,
 };
+#[cfg(feature = "versions")]
+pub use effort::{counted, Effort};
 pub use internal::under;
 pub use recovery::{accepts_data, accepts_tombstone, start_file};
 pub use types::{Error, Failure};

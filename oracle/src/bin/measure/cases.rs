@@ -5,11 +5,12 @@ use std::{
     time::Instant,
 };
 
+use locker_log::sys::RawEffort;
 use original::{Failure, File};
 
 use crate::{
     library,
-    report::{grouped, Panel, Row, SIDES},
+    report::{grouped, Hostile, Panel, Row, SIDES},
     rng::Rng,
 };
 
@@ -44,8 +45,8 @@ pub struct Sizes {
     pub rounds: u32,
     /// The region that is scanned.
     pub region: usize,
-    /// The hostile region.
-    pub hostile: usize,
+    /// The hostile regions.
+    pub hostile: Vec<usize>,
     /// Appends in a row, and the bytes that they fill at most.
     pub appends: u64,
     pub append_bytes: u64,
@@ -182,6 +183,7 @@ pub struct Bench {
     rng: Rng,
     pub system: System,
     pub rows: Vec<Row>,
+    pub hostile: Vec<Hostile>,
 }
 
 impl Bench {
@@ -194,6 +196,7 @@ impl Bench {
             rng,
             system: System::default(),
             rows: vec![],
+            hostile: vec![],
             sizes,
         })
     }
@@ -210,7 +213,10 @@ impl Bench {
             self.named(&format!("append of {}", bytes(entry.length)), |bench| bench.appends(entry))?;
         }
         self.tracker()?;
-        self.named("durable end, hostile", Self::hostile)
+        for length in self.sizes.hostile.clone() {
+            self.named(&format!("durable end, hostile {}", bytes(length as u64)), |bench| bench.hostile(length))?;
+        }
+        Ok(())
     }
 
     /// Tells which case is measured, and which one failed.
@@ -223,12 +229,16 @@ impl Bench {
         self.rows.push(Row { panel, title: title.to_string(), label: label.to_string(), figures });
     }
 
-    /// The durable end up to `bound`, which all sides have to give as `right`.
-    fn durable_end(&mut self, bound: u64, right: u64) -> Result<[f64; 3], String> {
+    /// The durable end up to `bound`, which all sides have to give as `right`, and for which the library has to count
+    /// `effort`.
+    fn durable_end(&mut self, bound: u64, right: u64, effort: RawEffort) -> Result<[f64; 3], String> {
         let (region, file) = (&self.region[..self.file.length_now() as usize], &self.file);
         in_turns(self.sizes.rounds, |side| {
             let (seconds, end) = timed(|| match side {
-                Side::Library => library::durable_end(region, bound),
+                Side::Library => match library::durable_end(region, bound)? {
+                    (end, counted) if counted == effort => Ok(end),
+                    (_, counted) => Err(format!("{side} counts {counted:?} instead of {effort:?}")),
+                },
                 _ => file.durable_end(bound).map_err(told),
             })?;
             if end != right {
@@ -268,7 +278,8 @@ impl Bench {
         }
         self.file.put(0, &self.region);
         self.used_bound(1, used)?;
-        let seconds = self.durable_end(used, used)?;
+        let effort = RawEffort { lines: count, bytes: count * (entry.length - 2) };
+        let seconds = self.durable_end(used, used, effort)?;
         let speed = seconds.map(|s| used as f64 / s / 1e6);
         let label = format!("entries of {}", bytes(entry.length));
         self.row(Panel::Scan, &format!("durable end, {label}"), &label, speed);
@@ -286,7 +297,7 @@ impl Bench {
         self.file.put(0, &self.region);
         let length = self.region.len() as u64;
         self.used_bound(1, length)?;
-        let seconds = self.durable_end(length, 0)?;
+        let seconds = self.durable_end(length, 0, RawEffort { lines: length / 16, bytes: 0 })?;
         let speed = seconds.map(|s| length as f64 / s / 1e6);
         self.row(Panel::Scan, "durable end, every mark wrong", "every mark wrong", speed);
         Ok(())
@@ -401,13 +412,16 @@ impl Bench {
         Ok(())
     }
 
-    /// Every line has its mark and asks for the longest entry there can be; no checksum agrees.
-    fn hostile(&mut self) -> Result<(), String> {
-        let length = self.sizes.hostile;
+    /// The worst card of this length: every line has its mark and an entry that reaches as far as it can, and no checksum
+    /// agrees.
+    fn hostile(&mut self, length: usize) -> Result<(), String> {
         let region = &mut self.region[..length];
         for (i, line) in region.chunks_exact_mut(16).enumerate() {
+            let lengths = reach(length, 16 * i) - 10;
+            let klen = lengths.min(LARGEST_LENGTH);
             line[..4].copy_from_slice(&mark(16 * i).to_le_bytes());
-            line[4..8].fill(0xff);
+            line[4..6].copy_from_slice(&(klen as u16).to_le_bytes());
+            line[6..8].copy_from_slice(&((lengths - klen) as u16).to_le_bytes());
             line[8..].copy_from_slice(&self.rng.next().to_le_bytes());
         }
         while let Some(place) = last_verified(region) {
@@ -415,29 +429,45 @@ impl Bench {
         }
         self.file.set_length(length as u64);
         self.file.put(0, region);
-        let seconds = self.durable_end(length as u64, 0)?;
+        let summed = (0..length).step_by(16).map(|place| reach(length, place) as u64 - 2).sum();
+        let effort = RawEffort { lines: length as u64 / 16, bytes: summed };
+        let seconds = self.durable_end(length as u64, 0, effort)?;
         let label = bytes(length as u64);
         self.row(Panel::Hostile, &format!("durable end, hostile {label}"), &label, seconds);
+        self.hostile.push(Hostile { length: length as u64, effort, seconds });
         Ok(())
     }
+}
+
+/// The most that two bytes say of a key or a value, and the longest entry.
+const LARGEST_LENGTH: usize = 65_535;
+const LONGEST_ENTRY: usize = 10 + 2 * LARGEST_LENGTH;
+
+/// The longest entry at a line of a region. A region of whole lines has room for a data entry on each.
+fn reach(length: usize, place: usize) -> usize {
+    LONGEST_ENTRY.min(length - place)
 }
 
 /// The last line of a hostile region whose checksum agrees all the same. The sums come from the registers that one pass
 /// over the region leaves behind, since the checksum is linear: no entry is summed up on its own.
 fn last_verified(region: &[u8]) -> Option<usize> {
     use crc16_ibm3740_fast::update;
-    const SUMMED: usize = 8 + 65_535 + 65_535;
-    let zeros = vec![0; SUMMED];
-    let moved: [u16; 16] = std::array::from_fn(|bit| update(1 << bit, &zeros));
-    let past = |register: u16| (0..16).filter(|bit| register >> bit & 1 == 1).fold(0, |sum, bit| sum ^ moved[bit]);
     let mut before = vec![0; region.len() + 1];
     for (i, byte) in region.iter().enumerate() {
         before[i + 1] = update(before[i], &[*byte]);
     }
+    // What as many zeros as the line at hand has summed make of each bit of a register: more of them from line to line.
+    let mut zeros = 0;
+    let mut moved: [u16; 16] = std::array::from_fn(|bit| 1 << bit);
     (0..region.len()).step_by(16).rev().find(|&place| {
-        let end = place + SUMMED;
-        end + 2 <= region.len()
-            && before[end] ^ past(before[place] ^ 0xffff) == u16::from_le_bytes([region[end], region[end + 1]])
+        let summed = reach(region.len(), place) - 2;
+        let more = vec![0; summed - zeros];
+        moved = moved.map(|register| update(register, &more));
+        zeros = summed;
+        let register = before[place] ^ 0xffff;
+        let past = (0..16).filter(|bit| register >> bit & 1 == 1).fold(0, |sum, bit| sum ^ moved[bit]);
+        let end = place + summed;
+        before[end] ^ past == u16::from_le_bytes([region[end], region[end + 1]])
     })
 }
 

@@ -53,7 +53,7 @@ fn heading(panel: Panel) -> (&'static str, &'static str) {
         Panel::Scan => ("Durable end and used bound of a whole region", "MB/s, longer is faster"),
         Panel::Append => ("Appends", "nanoseconds each, shorter is faster"),
         Panel::Tracker => ("Tracker", "nanoseconds a call or pair of calls, shorter is faster"),
-        Panel::Hostile => ("Durable end of a hostile region", "seconds, shorter is faster"),
+        Panel::Hostile => ("Durable end of the worst card of a length", "seconds, shorter is faster"),
     }
 }
 

@@ -1,7 +1,7 @@
 //! The proved library's calls, through its C interface (include/locker_log.h).
 
 use locker_log::{
-    sys::{self, RawProgress},
+    sys::{self, RawEffort, RawProgress},
     Cells, Reserved,
 };
 use original::State;
@@ -49,12 +49,13 @@ pub fn used_bound(region: &[u8]) -> Result<u64, String> {
     Ok(bound)
 }
 
-pub fn durable_end(region: &[u8], bound: u64) -> Result<u64, String> {
-    let (mut end, mut place) = (0, 0);
-    let (lent, length) = (region.as_ptr(), region.len());
+/// The durable end, and what it took.
+pub fn durable_end(region: &[u8], bound: u64) -> Result<(u64, RawEffort), String> {
+    let (mut end, mut place, mut effort) = (0, 0, RawEffort::default());
+    let (lent, length, bound) = (region.as_ptr(), region.len(), bound as usize);
     let number =
-        unsafe { sys::locker_durable_end(lent, length, VERSION, ORDINAL, bound as usize, &mut end, &mut place) };
-    answered(number, end)
+        unsafe { sys::locker_durable_end(lent, length, VERSION, ORDINAL, bound, &mut end, &mut place, &mut effort) };
+    answered(number, (end, effort))
 }
 
 pub struct Tracker(Box<Cells>);

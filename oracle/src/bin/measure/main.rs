@@ -56,12 +56,16 @@ fn sizes(options: &Options) -> Result<Sizes, String> {
     let sizes = Sizes {
         rounds: options.rounds.unwrap_or(if quick { 2 } else { 5 }),
         region: if quick { LARGEST_REGION / 8 } else { LARGEST_REGION },
-        hostile: options.hostile.unwrap_or(if quick { 1 << 18 } else { 1 << 20 }),
+        hostile: match options.hostile {
+            Some(length) => vec![length],
+            None if quick => vec![1 << 16, 1 << 18],
+            None => vec![1 << 16, 1 << 18, 1 << 20],
+        },
         appends: if quick { 50_000 } else { 200_000 },
         append_bytes: if quick { 1 << 24 } else { 1 << 26 },
         pairs: if quick { 50_000 } else { 200_000 },
     };
-    if sizes.hostile > sizes.region {
+    if sizes.hostile.iter().any(|length| *length > sizes.region) {
         return Err(format!("--hostile: at most the region's {} bytes", grouped(sizes.region as u64)));
     }
     Ok(sizes)
@@ -81,6 +85,7 @@ fn measure(sizes: Sizes, command: String, write: bool) -> Result<(), String> {
         day: machine::day(),
         command,
         rows: bench.rows,
+        hostile: bench.hostile,
         system: bench.system,
         sizes: bench.sizes,
     };

@@ -1,4 +1,6 @@
-//! The table of a run, for the screen and as docs/BENCH.md.
+//! The tables of a run, for the screen and as docs/BENCH.md.
+use locker_log::sys::RawEffort;
+
 use crate::cases::{Sizes, System, ENTRIES, SLOW};
 
 /// The three sides, as the chart and the table call them.
@@ -51,9 +53,26 @@ impl Row {
     }
 }
 
+/// A hostile region: what its durable end took, as the library counts it, and the seconds of the three sides.
+pub struct Hostile {
+    pub length: u64,
+    pub effort: RawEffort,
+    pub seconds: [f64; 3],
+}
+
+impl Hostile {
+    fn cells(&self) -> [String; 7] {
+        let RawEffort { lines, bytes } = self.effort;
+        let [library, one, sixteen] = self.seconds.map(figure);
+        let speed = figure(bytes as f64 / self.seconds[0] / 1e9);
+        [grouped(self.length), grouped(lines), grouped(bytes), library, one, sixteen, speed]
+    }
+}
+
 /// All of a run.
 pub struct Run {
     pub rows: Vec<Row>,
+    pub hostile: Vec<Hostile>,
     pub system: System,
     pub sizes: Sizes,
     pub processors: String,
@@ -100,6 +119,16 @@ pub fn figure(value: f64) -> String {
 const HEADS: [&str; 7] =
     ["case", "unit", "library", "original 1", "original 16", "times original 1", "times original 16"];
 
+const HOSTILE_HEADS: [&str; 7] = [
+    "hostile region, bytes",
+    "lines tried",
+    "bytes checksummed",
+    "library, s",
+    "original 1, s",
+    "original 16, s",
+    "library, GB/s checksummed",
+];
+
 impl Run {
     /// What the numbers mean: sentences for the screen and for the document.
     fn notes(&self) -> Vec<String> {
@@ -109,8 +138,8 @@ impl Run {
              of sixteen bytes a step (sixteen tables). The checksum crate that it names could not be had; both forms are \
              stand-ins, and the crate itself may be faster than either."
                 .to_string(),
-            "The last two columns tell how many times as fast as the original the library is: over 1, it is faster; below 1, it \
-             is slower. MB/s are millions of bytes a second."
+            "The first table's last two columns tell how many times as fast as the original the library is: over 1, it is \
+             faster; below 1, it is slower. MB/s are millions of bytes a second, GB/s thousands of millions."
                 .to_string(),
             format!(
                 "Best of {} rounds, the three sides in turns in one process. A side that takes over {SLOW} s for a round has \
@@ -158,8 +187,10 @@ impl Run {
             grouped(sizes.pairs)
         ));
         notes.push(
-            "In the hostile region every line has the right mark and asks for a key and a value of 65,535 bytes, and no \
-             checksum agrees, so that every line with as many bytes behind it has 131,078 bytes summed."
+            "A hostile region is the worst card of its length: every line has its mark and an entry that reaches as far as it \
+             can, 131,080 bytes or to the region's end, and no checksum agrees, so that every line is tried and all of its \
+             entry but the checksum's two bytes is summed. Lines tried and bytes checksummed are the library's own counts \
+             (document 02, request 8), and were held to that sum; docs/HOSTILE.md tells what a full card costs."
                 .to_string(),
         );
         notes.push(
@@ -169,30 +200,23 @@ impl Run {
         notes
     }
 
-    /// The plain table.
+    /// The plain tables.
     pub fn text(&self) -> String {
-        let mut lines = vec![HEADS.map(str::to_string).to_vec()];
-        lines.extend(self.rows.iter().map(|row| {
-            let mut line = vec![row.title.clone()];
-            line.extend(row.cells());
-            line
+        let mut rows = vec![HEADS.map(str::to_string)];
+        rows.extend(self.rows.iter().map(|row| {
+            let [unit, library, one, sixteen, to_one, to_sixteen] = row.cells();
+            [row.title.clone(), unit, library, one, sixteen, to_one, to_sixteen]
         }));
-        let widths: Vec<usize> =
-            (0..HEADS.len()).map(|i| lines.iter().map(|line| line[i].len()).max().unwrap_or(0)).collect();
+        let mut hostile = vec![HOSTILE_HEADS.map(str::to_string)];
+        hostile.extend(self.hostile.iter().map(Hostile::cells));
         let mut text = format!(
-            "{}; load averages {} at the start, {} at the end\n\n",
-            self.processors, self.load_before, self.load_after
+            "{}; load averages {} at the start, {} at the end\n\n{}\n{}\n",
+            self.processors,
+            self.load_before,
+            self.load_after,
+            in_columns(&rows, 2),
+            in_columns(&hostile, 0)
         );
-        for line in lines {
-            let mut written = String::new();
-            for (i, cell) in line.iter().enumerate() {
-                let width = widths[i];
-                written += &if i < 2 { format!("{cell:<width$}  ") } else { format!("{cell:>width$}  ") };
-            }
-            text += written.trim_end();
-            text.push('\n');
-        }
-        text.push('\n');
         for note in self.notes() {
             text += &wrapped(&note.replace('`', ""), 100, "- ", "  ");
         }
@@ -205,7 +229,7 @@ impl Run {
             "# Measured: the library and the original\n\n\
              `{}` measured this on {}, on a machine with {}; load averages {} at the start, {} at the end. \
              `bench/run --write` measures again and writes this page and its picture.\n\n\
-             ![The table below as bars](bench.svg)\n\n",
+             ![The first table below as bars](bench.svg)\n\n",
             self.command, self.day, self.processors, self.load_before, self.load_after
         );
         text = wrapped_paragraphs(&text);
@@ -213,12 +237,32 @@ impl Run {
         for row in &self.rows {
             text += &format!("| {} | {} |\n", row.title, row.cells().join(" | "));
         }
+        text += &format!("\n| {} |\n|---:|---:|---:|---:|---:|---:|---:|\n", HOSTILE_HEADS.join(" | "));
+        for hostile in &self.hostile {
+            text += &format!("| {} |\n", hostile.cells().join(" | "));
+        }
         text += "\n## What the numbers mean\n\n";
         for note in self.notes() {
             text += &wrapped(&note, 150, "- ", "  ");
         }
         text
     }
+}
+
+/// Rows in columns, of which the first `words` have words and the others figures.
+fn in_columns(rows: &[[String; 7]], words: usize) -> String {
+    let widths: [usize; 7] = std::array::from_fn(|i| rows.iter().map(|row| row[i].len()).max().unwrap_or(0));
+    let mut text = String::new();
+    for row in rows {
+        let mut line = String::new();
+        for (i, cell) in row.iter().enumerate() {
+            let width = widths[i];
+            line += &if i < words { format!("{cell:<width$}  ") } else { format!("{cell:>width$}  ") };
+        }
+        text += line.trim_end();
+        text.push('\n');
+    }
+    text
 }
 
 /// Words in lines of at most `width` letters.

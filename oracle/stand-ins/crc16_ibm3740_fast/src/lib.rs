@@ -1,7 +1,8 @@
 //! A stand-in for the checksum crate, which Debian doesn't have: CRC-16/IBM-3740 by the catalogue's rule (polynomial
 //! 0x1021, start 0xffff, no reflection, no final exclusive-or). `oracle/run` holds it to Python's `binascii.crc_hqx`.
 //!
-//! `hash` takes one byte a step, and sixteen where `bench/run` has asked for that. The comparison never does.
+//! `hash` takes one byte a step, and sixteen where `bench/run` has asked for that. The comparison never does. For the
+//! comparison it counts the bytes that it is given (feature `counted`).
 use std::sync::atomic::{AtomicBool, Ordering};
 
 /// The register after one bit at a time of `byte`, as the catalogue has it.
@@ -77,7 +78,20 @@ fn update_by_sixteen(state: u16, bytes: &[u8]) -> u16 {
     update(register, sixteens.remainder())
 }
 
+#[cfg(feature = "counted")]
+thread_local! {
+    static BYTES_HASHED: std::cell::Cell<u64> = const { std::cell::Cell::new(0) };
+}
+
+/// How many bytes `hash` was given on this thread since this was asked last.
+#[cfg(feature = "counted")]
+pub fn take_bytes_hashed() -> u64 {
+    BYTES_HASHED.take()
+}
+
 /// The checksum. The original casts the answer to `u16`, so the crate's own answer is wider.
 pub fn hash(bytes: &[u8]) -> u64 {
+    #[cfg(feature = "counted")]
+    BYTES_HASHED.set(BYTES_HASHED.get() + bytes.len() as u64);
     u64::from(if SIXTEEN.load(Ordering::Relaxed) { update_by_sixteen(0xffff, bytes) } else { update(0xffff, bytes) })
 }
