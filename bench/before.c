@@ -1,7 +1,8 @@
-// Measures two builds of the library in turns: the checksum alone, durable end, reads at a place, appends, the start file,
-// the tracker. bench/before builds and runs this, with the path of the earlier build, the form of its calls (`neither`,
-// `versions` or `efforts`), the path of today's build and the number of rounds. Prints a line for each case, and ends with
-// status 1 if the two ever give different sums, ends, efforts, entries, bytes, places or progress.
+// Measures two builds of the library in turns: the checksum alone, durable end, count entries, reads at a place, appends,
+// the start file, the tracker. bench/before builds and runs this, with the path of the earlier build, the form of its calls
+// (`neither`, `versions`, `efforts` or `counts`), the path of today's build and the number of rounds. Prints a line for each
+// case, and ends with status 1 if the two ever give different sums, ends, efforts, counts, entries, bytes, places or
+// progress. A second table has count entries of today's build beside its own durable end.
 #define _POSIX_C_SOURCE 199309L
 #include <dlfcn.h>
 #include <stdio.h>
@@ -16,9 +17,9 @@ enum { MOST_SUMS = 5000000, MOST_APPENDS = 200000, STARTS = 20000, TRACKS = 2000
 
 // What is called of a build. Calls go through these pointers, so the compiler can neither merge nor skip them. Those that
 // need a mark have two forms: with the file's version and ordinal, and without, as before there were version 2 files. A
-// durable end has a third, which tells its effort too.
+// durable end has a third, which tells its effort too. A build that doesn't count entries has no such call.
 struct side {
-    bool versions, efforts;
+    bool versions, efforts, counts;
     uint16_t (*hash)(const uint8_t *, size_t);
     union {
         uint32_t (*with)(uint8_t *, size_t, uint64_t, uint64_t, size_t, uint64_t, uint64_t, const uint8_t *, size_t, const uint8_t *, size_t,
@@ -34,6 +35,8 @@ struct side {
         uint32_t (*with)(const uint8_t *, size_t, uint64_t, uint64_t, size_t, uint64_t *, uint64_t *);
         uint32_t (*without)(const uint8_t *, size_t, size_t, uint64_t *, uint64_t *);
     } durable_end;
+    uint32_t (*used_bound)(const uint8_t *, size_t, uint64_t *);
+    uint32_t (*count_entries)(const uint8_t *, size_t, uint64_t, uint64_t, struct locker_counts *, uint64_t *);
     union {
         uint32_t (*with)(const uint8_t *, size_t, uint64_t, uint64_t, size_t, size_t, struct locker_entry *);
         uint32_t (*without)(const uint8_t *, size_t, size_t, size_t, struct locker_entry *);
@@ -67,12 +70,16 @@ static struct side loaded(const char *path, const char *form)
     void *library = dlopen(path, RTLD_NOW | RTLD_LOCAL);
     if (!library)
         fail(dlerror());
-    struct side side = {.efforts = strcmp(form, "efforts") == 0};
+    struct side side = {.counts = strcmp(form, "counts") == 0};
+    side.efforts = side.counts || strcmp(form, "efforts") == 0;
     side.versions = side.efforts || strcmp(form, "versions") == 0;
     *(void **)&side.hash = found(library, "locker_hash");
     *(void **)&side.append_data = found(library, "locker_append_data");
     *(void **)&side.append_tombstone = found(library, "locker_append_tombstone");
     *(void **)&side.durable_end = found(library, "locker_durable_end");
+    *(void **)&side.used_bound = found(library, "locker_used_bound");
+    if (side.counts)
+        *(void **)&side.count_entries = found(library, "locker_count_entries");
     *(void **)&side.read_at = found(library, "locker_read_at");
     *(void **)&side.start_file = found(library, "locker_start_file");
     *(void **)&side.complete = found(library, "locker_tracker_complete");
@@ -118,14 +125,20 @@ __attribute__((noinline)) static uint64_t deeper(size_t bytes, measured_fn *meas
 
 enum { STACK_STEP = 16, STACK_PLACES = 8 };
 
-static struct best in_turns(measured_fn *measured, const void *what)
+// What takes turns: two builds at one call, or one build at two.
+struct turn {
+    const struct side *side;
+    measured_fn *measured;
+};
+
+static struct best in_turns_of(const struct turn turns[SIDES], const void *what)
 {
     struct best best = {{1e9, 1e9}, {0, 0}};
     for (int round = 0; round < rounds; round++)
         for (int i = 0; i < SIDES; i++) {
             const size_t passed = STACK_STEP * (size_t)(1 + round % STACK_PLACES);
             double began = now();
-            best.answer[i] = deeper(passed, measured, &sides[i], what);
+            best.answer[i] = deeper(passed, turns[i].measured, turns[i].side, what);
             double took = now() - began;
             if (took < best.seconds[i])
                 best.seconds[i] = took;
@@ -133,11 +146,21 @@ static struct best in_turns(measured_fn *measured, const void *what)
     return best;
 }
 
+static struct best in_turns(measured_fn *measured, const void *what)
+{
+    return in_turns_of((struct turn[SIDES]){{&sides[EARLIER], measured}, {&sides[TODAY], measured}}, what);
+}
+
+static void head(const char *first, const char *second)
+{
+    printf("%-14s %10s  %27s  %27s  %7s  %s\n", "", "bytes", first, second, "faster", "answers");
+}
+
 static void report(const char *name, size_t size, double bytes, double calls, struct best best)
 {
     bool alike = best.answer[EARLIER] == best.answer[TODAY];
     same &= alike;
-    printf("%-12s %10zu", name, size);
+    printf("%-14s %10zu", name, size);
     for (int i = 0; i < SIDES; i++)
         printf("  %6.0f MB/s %13.1f ns", bytes / best.seconds[i] / 1e6, best.seconds[i] / calls * 1e9);
     printf("  %5.2f x  %s\n", best.seconds[EARLIER] / best.seconds[TODAY], alike ? "alike" : "DIFFER");
@@ -168,7 +191,8 @@ static void measure_sums(const uint8_t *bytes, size_t length)
     report("checksum", length, (double)length * (double)run.calls, (double)run.calls, in_turns(sums, &run));
 }
 
-// ---- entries: appended one after the other to a region, the region's durable end, and each entry read at its place
+// ---- entries: appended one after the other to a region, the region's durable end, its counts, and each entry read at its
+// place
 
 struct log {
     uint8_t *region;
@@ -194,9 +218,9 @@ static uint32_t append_tombstone(const struct side *side, const struct log *log,
     return side->append_tombstone.without(log->region, log->capacity, *used, 1, key, log->klen, used);
 }
 
-static uint32_t durable_end(const struct side *side, const struct log *log, uint64_t *end, uint64_t *place, struct locker_effort *effort)
+static uint32_t durable_end(const struct side *side, const struct log *log, size_t bound, uint64_t *end, uint64_t *place,
+                            struct locker_effort *effort)
 {
-    const size_t bound = log->size * log->count;
     if (side->efforts)
         return side->durable_end.telling(log->region, log->capacity, log->version, log->ordinal, bound, end, place, effort);
     if (side->versions)
@@ -224,17 +248,50 @@ static uint64_t appended(const struct side *side, const void *what)
     return used;
 }
 
+static struct locker_effort ended_at(const struct side *side, const struct log *log, size_t bound)
+{
+    uint64_t end = 0, place = 0;
+    struct locker_effort effort = {0, 0};
+    if (durable_end(side, log, bound, &end, &place, &effort))
+        fail("a durable end was refused");
+    if (end != log->end)
+        fail("a durable end isn't the one that was meant");
+    return effort;
+}
+
 // The end, and the effort where both sides tell it.
 static uint64_t ended(const struct side *side, const void *what)
 {
     const struct log *log = what;
-    uint64_t end = 0, place = 0;
-    struct locker_effort effort = {0, 0};
-    if (durable_end(side, log, &end, &place, &effort))
-        fail("a durable end was refused");
-    if (end != log->end)
-        fail("a durable end isn't the one that was meant");
-    return sides[EARLIER].efforts ? (end * 31 + effort.lines) * 31 + effort.bytes : end;
+    struct locker_effort effort = ended_at(side, log, log->size * log->count);
+    return sides[EARLIER].efforts ? (log->end * 31 + effort.lines) * 31 + effort.bytes : log->end;
+}
+
+// The entries, of which all are in one cell: as many as there are up to the end.
+static uint64_t counted(const struct side *side, const void *what)
+{
+    const struct log *log = what;
+    struct locker_counts counts;
+    uint64_t place = 0, all = 0;
+    if (side->count_entries(log->region, log->capacity, log->version, log->ordinal, &counts, &place))
+        fail("a count was refused");
+    for (size_t kind = 0; kind < LOCKER_KINDS; kind++)
+        for (size_t ns = 0; ns < LOCKER_NAMESPACES; ns++)
+            all += counts.entries[kind][ns];
+    if (all != log->end / log->size || all != counts.entries[log->vlen ? LOCKER_INSERT : LOCKER_TOMBSTONE][1])
+        fail("the counts aren't those that were meant");
+    return all;
+}
+
+// What a count takes without its counting: the used bound, and the durable end up to it, of so many entries.
+static uint64_t ended_at_used_bound(const struct side *side, const void *what)
+{
+    const struct log *log = what;
+    uint64_t bound = 0;
+    if (side->used_bound(log->region, log->capacity, &bound))
+        fail("a used bound was refused");
+    ended_at(side, log, bound);
+    return log->end / log->size;
 }
 
 // The entries are inserts, which every build tells as such.
@@ -251,6 +308,26 @@ static uint64_t read_all(const struct side *side, const void *what)
     return told;
 }
 
+// A line of the second table, which is told when the first is whole.
+struct line {
+    const char *name;
+    size_t size;
+    double bytes, calls;
+    struct best best;
+};
+
+static struct line beside[7];
+static size_t lines;
+
+// Count entries of both builds, where the earlier has it, and of today's beside its durable end.
+static void measure_counts(const char *name, size_t size, double bytes, const struct log *log)
+{
+    const struct turn turns[SIDES] = {{&sides[TODAY], ended_at_used_bound}, {&sides[TODAY], counted}};
+    if (sides[EARLIER].counts)
+        report(name, size, bytes, (double)log->count, in_turns(counted, log));
+    beside[lines++] = (struct line){name, size, bytes, (double)log->count, in_turns_of(turns, log)};
+}
+
 static void measure_entries(struct log log, size_t length)
 {
     log.size = (length + 15) / 16 * 16;
@@ -265,6 +342,7 @@ static void measure_entries(struct log log, size_t length)
     other.ordinal = 1 << 24;
     report("durable end", length, (double)log.size * (double)log.count, (double)log.count, in_turns(ended, &log));
     report(".. version 2", length, (double)log.size * (double)log.count, (double)log.count, in_turns(ended, &other));
+    measure_counts("count", length, (double)log.size * (double)log.count, &log);
     if (log.vlen)
         report("read", length, (double)log.size * (double)log.count, (double)log.count, in_turns(read_all, &log));
 }
@@ -301,25 +379,26 @@ static uint64_t mark(size_t p)
     return (p / 16 + 0x5A17C0) % 0x1000000;
 }
 
-static void measure_lines(const char *name, struct log log, size_t length, size_t bytes)
+static void measure_lines(const char *name, const char *counts, struct log log, size_t length, size_t bytes)
 {
     log.capacity = length;
     log.size = LOCKER_LINE;
     log.count = length / LOCKER_LINE;
     log.end = 0;
     report(name, length, (double)bytes, (double)log.count, in_turns(ended, &log));
+    measure_counts(counts, length, (double)bytes, &log);
 }
 
 // Of the zeros one line has its mark, which is 0, and seems to be an entry of 10 bytes with a wrong checksum.
 static void measure_no_entry(struct log log)
 {
     memset(log.region, 0, REGION);
-    measure_lines("end, zeros", log, REGION, REGION);
+    measure_lines("end, zeros", "count, zeros", log, REGION, REGION);
     fill(log.region, REGION);
     for (size_t p = 0; p < REGION; p += LOCKER_LINE)
         if (log.region[p] == mark(p) % 256)
             log.region[p] ^= 1;
-    measure_lines("end, no mark", log, REGION, REGION);
+    measure_lines("end, no mark", "count, no mark", log, REGION, REGION);
 }
 
 // The costliest region of its size: at each line an entry of a key alone that takes all the rest, and all of them share the
@@ -334,7 +413,7 @@ static void measure_hostile(struct log log)
         put_number(log.region + p + 6, 0, 2);
         bytes += HOSTILE - p - 2;
     }
-    measure_lines("end, hostile", log, HOSTILE, bytes);
+    measure_lines("end, hostile", "count, hostile", log, HOSTILE, bytes);
 }
 
 // ---- the start file, of an ascending list, where every build chooses the same, and with a cursor past its last ordinal
@@ -434,7 +513,7 @@ int main(int argc, char **argv)
     if (argc != 5)
         fail("takes the earlier library, the form of its calls, today's library and the number of rounds");
     sides[EARLIER] = loaded(argv[1], argv[2]);
-    sides[TODAY] = loaded(argv[3], "efforts");
+    sides[TODAY] = loaded(argv[3], "counts");
     rounds = atoi(argv[4]);
 
     uint8_t *region = malloc(REGION), *bytes = malloc(LONGEST_RUN + 1);
@@ -443,7 +522,7 @@ int main(int argc, char **argv)
     fill(bytes, LONGEST_RUN + 1);
     struct log log = {.region = region, .bytes = bytes, .version = LOCKER_VERSION_1, .capacity = REGION};
 
-    printf("%-12s %10s  %27s  %27s  %7s  %s\n", "", "bytes", "earlier, each", "today, each", "faster", "answers");
+    head("earlier, each", "today, each");
     for (size_t i = 0; i < sizeof lengths / sizeof *lengths; i++)
         measure_sums(bytes, lengths[i]);
     for (size_t i = 0; i < sizeof entries / sizeof *entries; i++) {
@@ -458,5 +537,10 @@ int main(int argc, char **argv)
         measure_starts(count);
     for (size_t count = 0; count < LOCKER_WAITING; count = 2 * count + 1)
         measure_tracker(count);
+
+    printf("\n");
+    head("durable end, each", "count entries, each");
+    for (size_t i = 0; i < lines; i++)
+        report(beside[i].name, beside[i].size, beside[i].bytes, beside[i].calls, beside[i].best);
     return same ? 0 : 1;
 }

@@ -1,7 +1,7 @@
 /*
- * The locker log: header, entries, walk, used bound and durable end of one data file, the limits of replay and its
- * start file, and the tracker of reservations and waiting deltas, proved in Rattle and built by `tools/native locker`
- * as target/native/liblocker.a.
+ * The locker log: header, entries, walk, used bound, durable end and counts of one data file, the limits of replay and
+ * its start file, and the tracker of reservations and waiting deltas, proved in Rattle and built as
+ * target/native/liblocker.a by `tools/native locker`.
  *
  * Every function that can refuse answers a number: 0 for accepted, else the number of document 01's table (LOCKER_...
  * below). Any bytes and any numbers may be passed, and a tracker of any cells. "Refuses 3, 5" gives a function's
@@ -15,7 +15,8 @@
  * tracker or a region between threads sees to it that one call at a time works on it.
  *
  * The library calls memcpy and memset and nothing else. A call on a tracker works on copies of it: built for Arm it
- * takes up to 16 KiB of stack, where any other call takes less than 2 KiB.
+ * takes up to 16 KiB of stack. Counting entries fills grids of its own first and takes less than 3 KiB, and any other
+ * call takes less than 2 KiB.
  *
  * A region is a data file without its first 4,096 bytes. All places count from the region's first byte.
  *
@@ -130,6 +131,9 @@ enum {
 
 enum { LOCKER_INSERT = 0, LOCKER_UPDATE = 1, LOCKER_TOMBSTONE = 2 };
 
+/* How many types there are, and how many namespaces: the rows and the columns of a grid of counts. */
+enum { LOCKER_KINDS = 3, LOCKER_NAMESPACES = 64 };
+
 /* Where an entry stands: its line, its type, its namespace, the lengths and places of key and value, and one past its
  * checksum, not rounded up. */
 struct locker_entry {
@@ -153,6 +157,13 @@ struct locker_entry {
 struct locker_effort {
     uint64_t lines;
     uint64_t bytes;
+};
+
+/* How many entries of each type stand in each namespace: entries[kind][ns] is the number of those whose type is `kind`,
+ * from LOCKER_INSERT to LOCKER_TOMBSTONE, and whose namespace is `ns`, from 0 to LOCKER_LAST_NAMESPACE. Every entry
+ * has a line of its own, so all cells together are at most 16,777,216. */
+struct locker_counts {
+    uint32_t entries[LOCKER_KINDS][LOCKER_NAMESPACES];
 };
 
 /* A reservation's number, and the place that it holds: the file's ordinal and the offset. Number 0 is an idle slot,
@@ -258,6 +269,12 @@ uint32_t locker_used_bound(const uint8_t *region, size_t length, uint64_t *bound
 uint32_t locker_durable_end(const uint8_t *region, size_t length, uint64_t version, uint64_t ordinal, size_t bound,
                             uint64_t *end, uint64_t *place, struct locker_effort *effort);
 
+/* Counts the entries that locker_walk lists from 0 to the used bound, each in the cell of its type and its namespace:
+ * *counts tells them all, and whatever it held before is written over. With a refusal it stays as it was. Refuses 2, 3,
+ * then 10 with its *place. */
+uint32_t locker_count_entries(const uint8_t *region, size_t length, uint64_t version, uint64_t ordinal,
+                              struct locker_counts *counts, uint64_t *place);
+
 /* ---- replay */
 
 /* Whether a recovered data entry of these lengths is accepted for replay under a configured maximum region size.
@@ -357,6 +374,9 @@ LOCKER_HOLDS(offsetof(struct locker_entry, end) == 56, "then the end");
 LOCKER_HOLDS(sizeof(struct locker_effort) == 16, "two numbers of 64 bits");
 LOCKER_HOLDS(offsetof(struct locker_effort, lines) == 0, "lines first");
 LOCKER_HOLDS(offsetof(struct locker_effort, bytes) == 8, "then bytes");
+
+LOCKER_HOLDS(sizeof(struct locker_counts) == 768, "three rows of 64 numbers of 32 bits");
+LOCKER_HOLDS(offsetof(struct locker_counts, entries) == 0, "the rows and nothing else");
 
 LOCKER_HOLDS(sizeof(struct locker_slot) == 24, "three numbers of 64 bits");
 LOCKER_HOLDS(offsetof(struct locker_slot, number) == 0, "number first");

@@ -874,7 +874,7 @@ static void try_part(void) {
     CHECK(all_are(region, sizeof region, 0));
 }
 
-/* ---- used bound and durable end */
+/* ---- used bound, durable end and count entries */
 
 static void try_used_bound(void) {
     begin("locker_used_bound");
@@ -936,8 +936,9 @@ static int plain_line(const uint8_t *region, size_t length, size_t p, size_t *co
     return plain_sum(0xffff, at, *covered) == number_at(at + *covered, 2) ? VERIFIED : WRONG_CHECKSUM;
 }
 
-/* The durable end by document 01's walk and document 02's request 8, line by line. */
-static struct ended plain_end(const uint8_t *region, size_t length, size_t bound) {
+/* Document 01's walk up to a bound, line by line: the durable end with document 02's request 8, and by its request 9 one
+ * more in *counts for each entry. */
+static struct ended plain_walk(const uint8_t *region, size_t length, size_t bound, struct locker_counts *counts) {
     struct ended told = {.number = LOCKER_ACCEPTED};
     if (rule.version != 1 && rule.version != 2) return (struct ended){.number = 2};
     if (length > largest) return (struct ended){.number = 3};
@@ -951,8 +952,14 @@ static struct ended plain_end(const uint8_t *region, size_t length, size_t bound
         if (outcome == WRONG_CHECKSUM || outcome == VERIFIED) told.effort.bytes += covered;
         next = outcome == VERIFIED ? up(p + covered + 2) : p + 16;
         if (outcome == VERIFIED) told.at = next;
+        if (outcome == VERIFIED) counts->entries[region[p + 3] >> 6][region[p + 3] & 63]++;
     }
     return told;
+}
+
+static struct ended plain_end(const uint8_t *region, size_t length, size_t bound) {
+    struct locker_counts counts = {{{0}}};
+    return plain_walk(region, length, bound, &counts);
 }
 
 static bool same_effort(struct locker_effort a, struct locker_effort b) {
@@ -1114,21 +1121,27 @@ static void durable_end_at_most(void) {
 }
 
 /* A hostile card: every mark is right, every entry ends with the region, and no checksum agrees. */
-static void durable_end_of_a_hostile_region(void) {
-    enum { LINES = 1024, LENGTH = 16 * LINES };
-    uint8_t *region = malloc(LENGTH);
-    if (region == NULL) exit(2);
-    memset(region, 0x5a, LENGTH);
-    for (size_t p = 0; p < LENGTH; p += 16) {
-        size_t covered = LENGTH - p - 2, klen = covered - 8;
+enum { HOSTILE_LINES = 1024, HOSTILE = 16 * HOSTILE_LINES };
+
+static void put_hostile(uint8_t *region) {
+    memset(region, 0x5a, HOSTILE);
+    for (size_t p = 0; p < HOSTILE; p += 16) {
+        size_t covered = HOSTILE - p - 2, klen = covered - 8;
         put_number(region + p, mark(p) | (uint64_t)(p / 16 % 2) << 30, 4);
         put_number(region + p + 4, klen, 2);
         put_number(region + p + 6, 0, 2);
     }
     /* all share their last two bytes: some such agree with none */
     uint64_t sum = 0;
-    do put_number(region + LENGTH - 2, sum++, 2);
-    while (plain_end(region, LENGTH, LENGTH).at != 0);
+    do put_number(region + HOSTILE - 2, sum++, 2);
+    while (plain_end(region, HOSTILE, HOSTILE).at != 0);
+}
+
+static void durable_end_of_a_hostile_region(void) {
+    enum { LINES = HOSTILE_LINES, LENGTH = HOSTILE };
+    uint8_t *region = malloc(LENGTH);
+    if (region == NULL) exit(2);
+    put_hostile(region);
     CHECK(ends(region, LENGTH, LENGTH, 0, LINES, UINT64_C(8) * LINES * LINES + 6 * LINES));
     CHECK(ends(region, LENGTH, LENGTH / 2, 0, LINES / 2, UINT64_C(6) * LINES * LINES + 3 * LINES));
     CHECK(ends(region, LENGTH, 1, 0, 1, LENGTH - 2));
@@ -1268,7 +1281,7 @@ static size_t draw_region(uint8_t *region, size_t most) {
 }
 
 /* Many small regions. What becomes of their lines is counted, so that none of it is missed. */
-static void durable_end_of_any(void) {
+static void under_any_region(void (*trial)(const uint8_t *region, size_t length)) {
     enum { REGIONS = 50000, MOST = 160, OFTEN = 1000 };
     static const struct rule told[] = {{1, 7}, {2, 7}, {2, 8}, {2, 0xA5E83C}, {2, UINT64_MAX}, {3, 7}};
     uint8_t region[MOST + 80];
@@ -1277,9 +1290,13 @@ static void durable_end_of_any(void) {
         rule = told[draw(5)];
         size_t length = draw_region(region, MOST);
         if (draw(16) == 0) rule = told[draw(6)];
-        durable_end(region, length, draw(2) == 0 ? length : draw(length + 2));
+        trial(region, length);
     }
     for (int outcome = 0; outcome < OUTCOMES; outcome++) CHECK(met[outcome] > OFTEN);
+}
+
+static void durable_end_of_any(const uint8_t *region, size_t length) {
+    durable_end(region, length, draw(2) == 0 ? length : draw(length + 2));
 }
 
 static void try_durable_end(void) {
@@ -1289,7 +1306,303 @@ static void try_durable_end(void) {
     durable_end_of_a_card_used_again();
     durable_end_of_erased();
     durable_end_of_many_bytes();
-    durable_end_of_any();
+    under_any_region(durable_end_of_any);
+}
+
+/* What count entries answers: the number, with 10 the place, and with 0 the grid. */
+struct counted {
+    uint32_t number;
+    uint64_t place;
+    struct locker_counts counts;
+};
+
+static bool same_counts(const struct locker_counts *a, const struct locker_counts *b) {
+    return memcmp(a, b, sizeof *a) == 0;
+}
+
+/* The entries of all cells. */
+static uint64_t sum_of(const struct locker_counts *counts) {
+    uint64_t sum = 0;
+    for (size_t kind = 0; kind < LOCKER_KINDS; kind++)
+        for (size_t ns = 0; ns < LOCKER_NAMESPACES; ns++) sum += counts->entries[kind][ns];
+    return sum;
+}
+
+/* Count entries, held to what is wanted. What isn't told has to stay, and so has the region (a small one). The grid lies
+ * between two numbers, at a place that is a multiple of 4 and of no more. */
+static struct counted wanted_counts(const uint8_t *region, size_t length, struct counted wanted) {
+    struct {
+        _Alignas(16) uint32_t before;
+        struct locker_counts counts;
+        uint32_t behind;
+    } told, left;
+    memset(&told, 0x5a, sizeof told);
+    memset(&left, 0x5a, sizeof left);
+    uint64_t place = UNTOUCHED;
+    size_t looked = length <= 200000 ? length : 0;
+    uint8_t *kept = copied(region, looked);
+    uint32_t number = locker_count_entries(region, length, rule.version, rule.ordinal, &told.counts, &place);
+    CHECK(memcmp(kept, region, looked) == 0);
+    free(kept);
+    CHECK(number == wanted.number);
+    CHECK(place == (number == LOCKER_UNKNOWN_TYPE ? wanted.place : UNTOUCHED));
+    CHECK(same_counts(&told.counts, number == LOCKER_ACCEPTED ? &wanted.counts : &left.counts));
+    CHECK(told.before == left.before && told.behind == left.behind);
+    return (struct counted){number, place, told.counts};
+}
+
+/* One past the last byte that isn't 0, rounded up to a line, but at most the length. */
+static size_t plain_bound(const uint8_t *region, size_t length) {
+    size_t used = length;
+    while (used > 0 && region[used - 1] == 0) used--;
+    return up(used) < length ? up(used) : length;
+}
+
+/* Count entries, held to the plain rule: the walk to the used bound. No grid can have more entries than lines. */
+static struct counted count(const uint8_t *region, size_t length) {
+    struct counted wanted = {.number = LOCKER_ACCEPTED};
+    struct ended ended = plain_walk(region, length, plain_bound(region, length), &wanted.counts);
+    wanted.number = ended.number;
+    wanted.place = ended.at;
+    struct counted told = wanted_counts(region, length, wanted);
+    if (told.number == LOCKER_ACCEPTED) CHECK(sum_of(&told.counts) <= up(length) / 16);
+    return told;
+}
+
+/* Whether the entries are these alone, in namespace 1, where the sample stands. */
+static bool counts_of_sample(struct counted told, uint32_t inserts, uint32_t updates, uint32_t tombstones) {
+    struct locker_counts wanted = {{{0}}};
+    wanted.entries[LOCKER_INSERT][1] = inserts;
+    wanted.entries[LOCKER_UPDATE][1] = updates;
+    wanted.entries[LOCKER_TOMBSTONE][1] = tombstones;
+    return told.number == LOCKER_ACCEPTED && same_counts(&told.counts, &wanted);
+}
+
+/* Whether so many entries are counted and all of them are in this cell. */
+static bool counts_in(struct counted told, unsigned kind, unsigned ns, uint32_t entries) {
+    struct locker_counts wanted = {{{0}}};
+    wanted.entries[kind][ns] = entries;
+    return told.number == LOCKER_ACCEPTED && same_counts(&told.counts, &wanted);
+}
+
+static bool counts_none(struct counted told) { return counts_in(told, 0, 0, 0); }
+
+static bool is_unknown_at(struct counted told, uint64_t place) {
+    return told.number == LOCKER_UNKNOWN_TYPE && told.place == place;
+}
+
+static void count_of_the_sample(void) {
+    uint8_t region[64] = {0}, changed[64];
+    put_sample(region);
+    /* an entry that lacks a byte isn't counted, and one that ends with the region is */
+    for (size_t length = 0; length <= 64; length++)
+        CHECK(counts_of_sample(count(region, length), length >= 13, length >= 30, length >= 42));
+    /* the used bound is told by the bytes alone: behind it nothing is looked at, whatever the length */
+    for (size_t line = 0; line <= 48; line += 16) {
+        memset(changed, 0, sizeof changed);
+        memcpy(changed, region, line);
+        CHECK(counts_of_sample(count(changed, 64), line > 0, line > 16, line > 32));
+    }
+    /* type 3 before, between and behind the entries, which aren't told then; a byte too few for it */
+    for (size_t line = 0; line <= 48; line += 16) {
+        memcpy(changed, region, sizeof changed);
+        put_number(changed + line, mark(line) | UINT64_C(3) << 30, 4);
+        CHECK(is_unknown_at(count(changed, 64), line));
+        CHECK(is_unknown_at(count(changed, line + 8), line));
+        CHECK(counts_of_sample(count(changed, line + 7), line > 0, line > 16, line > 32));
+    }
+    /* each bit of it changed */
+    for (size_t bit = 0; bit < 8 * 64; bit++) {
+        region[bit / 8] ^= (uint8_t)(1 << bit % 8);
+        count(region, 64);
+        region[bit / 8] ^= (uint8_t)(1 << bit % 8);
+    }
+}
+
+/* Every cell: an entry alone, and all 192 types and namespaces in one region, each another number of times. */
+static void count_of_every_cell(void) {
+    enum { ALL = 192 * 193 / 2 };
+    uint8_t alone[16], *region = calloc(ALL, 16);
+    if (region == NULL) exit(2);
+    struct counted wanted = {.number = LOCKER_ACCEPTED};
+    size_t used = 0;
+    for (unsigned kind = 0; kind < LOCKER_KINDS; kind++) {
+        for (unsigned ns = 0; ns < LOCKER_NAMESPACES; ns++) {
+            size_t length = put_entry(alone, 0, kind, kind, ns, key, 2, value, kind == 2 ? 0 : 1);
+            CHECK(counts_in(count(alone, length), kind, ns, 1));
+            wanted.counts.entries[kind][ns] = kind * LOCKER_NAMESPACES + ns + 1;
+            for (uint32_t i = 0; i < wanted.counts.entries[kind][ns]; i++, used += 16)
+                put_entry(region, used, kind, kind, ns, key, 2, value, kind == 2 ? 0 : 1);
+        }
+    }
+    CHECK(used == 16 * ALL && sum_of(&wanted.counts) == ALL);
+    wanted_counts(region, used, wanted);
+    /* the last entry, of 10 bytes, lacks one */
+    wanted.counts.entries[LOCKER_TOMBSTONE][LOCKER_LAST_NAMESPACE]--;
+    wanted_counts(region, used - 7, wanted);
+    /* 10 at the last line: of all that was counted nothing is told */
+    region[used - 13] |= 0xc0;
+    CHECK(is_unknown_at(count(region, used), used - 16));
+    free(region);
+}
+
+/* Entries within an entry, and a line of type 3: where the outer one verifies it alone is counted, else the lines in it
+ * are tried. */
+static void count_over_lines(void) {
+    uint8_t region[96] = {0};
+    memset(region + 16, 0xff, 48);
+    put_entry(region, 16, 2, 2, 2, key, 2, value, 0);
+    put_entry(region, 32, 0, 1, 3, key, 2, value, 1);
+    put_number(region + 48, mark(48) | UINT64_C(3) << 30, 4);
+    uint8_t *within = copied(region + 8, 62);
+    CHECK(put_entry(region, 0, 1, 1, 63, within + 52, 10, within, 52) == 72);
+    free(within);
+    CHECK(counts_in(count(region, 96), LOCKER_UPDATE, 63, 1));
+    CHECK(counts_in(count(region, 72), LOCKER_UPDATE, 63, 1));
+    CHECK(is_unknown_at(count(region, 71), 48));
+    region[70] ^= 1;
+    CHECK(is_unknown_at(count(region, 96), 48));
+    region[48] ^= 1;
+    struct counted told = count(region, 96);
+    CHECK(told.number == LOCKER_ACCEPTED && sum_of(&told.counts) == 2);
+    CHECK(told.counts.entries[LOCKER_TOMBSTONE][2] == 1 && told.counts.entries[LOCKER_UPDATE][3] == 1);
+}
+
+/* An entry that ends in zeros, its checksum among them: the used bound lies within it, and it is counted all the same. */
+static void count_past_the_bound(void) {
+    static const uint8_t zeros[30];
+    uint8_t region[64] = {0}, two[2];
+    uint64_t drawn = 0;
+    do {
+        put_number(two, drawn++, 2);
+        put_entry(region, 0, 1, 1, 9, zeros, sizeof zeros, two, 2);
+    } while (number_at(region + 40, 2) != 0 && drawn <= 0xffff);
+    CHECK(plain_bound(region, 64) == 16 && plain_bound(region, 42) == 16);
+    for (size_t length = 0; length <= 64; length++)
+        CHECK(counts_in(count(region, length), LOCKER_UPDATE, 9, length >= 42));
+}
+
+/* Entries of which both lengths are the most that two bytes hold, more than an append takes. */
+static void count_of_the_longest(void) {
+    const size_t longest = 131080;
+    uint8_t *part = calloc(1, 65535), *region = calloc(1, 2 * up(longest));
+    if (part == NULL || region == NULL) exit(2);
+    CHECK(put_entry(region, 0, 0, 0, 63, part, 65535, part, 65535) == longest);
+    CHECK(put_entry(region, up(longest), 0, 0, 63, part, 65535, part, 65535) == longest);
+    CHECK(counts_in(count(region, up(longest) + longest), LOCKER_INSERT, 63, 2));
+    CHECK(counts_in(count(region, up(longest) + longest - 1), LOCKER_INSERT, 63, 1));
+    CHECK(counts_in(count(region, longest), LOCKER_INSERT, 63, 1));
+    CHECK(counts_none(count(region, longest - 1)));
+    free(part);
+    free(region);
+}
+
+static void count_of_nothing(void) {
+    static const uint8_t zeros[64];
+    for (size_t length = 0; length <= 64; length++) CHECK(counts_none(count(zeros, length)));
+    uint8_t *region = malloc(HOSTILE);
+    if (region == NULL) exit(2);
+    put_hostile(region);
+    CHECK(counts_none(count(region, HOSTILE)));
+    CHECK(counts_none(count(region, HOSTILE - 1)));
+    free(region);
+}
+
+/* One byte more than the largest region, of which the first line is of type 3. */
+static uint32_t count_of_too_large(void) {
+    put_number(big, mark(0) | UINT64_C(3) << 30, 4);
+    uint32_t number = count(big, largest + 1).number;
+    memset(big, 0, 4);
+    return number;
+}
+
+static void count_of_the_largest(void) {
+    CHECK(counts_none(count(big, largest)));
+    put_entry(big, largest - 16, 2, 2, 5, key, 8, value, 0);
+    CHECK(counts_in(count(big, largest), LOCKER_TOMBSTONE, 5, 1));
+    CHECK(counts_none(count(big, largest - 1)));
+    CHECK(count(big, largest + 1).number == LOCKER_REGION_TOO_LARGE);
+    memset(big + largest - 16, 0, 16);
+    CHECK(count_of_too_large() == LOCKER_REGION_TOO_LARGE);
+    CHECK(all_are(big, largest + 1, 0));
+}
+
+/* The largest region full of entries of 16 bytes, the most that a cell can hold. The plain rule would take too long. */
+static void count_of_the_most(void) {
+    const uint32_t most = LOCKER_LARGEST_REGION / LOCKER_LINE;
+    struct counted wanted = {.number = LOCKER_ACCEPTED};
+    uint32_t *cell = &wanted.counts.entries[LOCKER_TOMBSTONE][LOCKER_LAST_NAMESPACE];
+    rule = rules[2];
+    for (size_t p = 0; p < largest; p += 16) put_entry(big, p, 2, 2, LOCKER_LAST_NAMESPACE, key, 8, value, 0);
+    CHECK(most == 16777216);
+    *cell = most;
+    wanted_counts(big, largest, wanted);
+    *cell = most - 1;
+    wanted_counts(big, largest - 1, wanted);
+    wanted_counts(big, largest + 1, (struct counted){.number = LOCKER_REGION_TOO_LARGE});
+    /* 10 at the last line, behind all others; a byte too few for it */
+    big[largest - 13] |= 0xc0;
+    wanted_counts(big, largest, (struct counted){.number = LOCKER_UNKNOWN_TYPE, .place = largest - 16});
+    wanted_counts(big, largest - 9, wanted);
+    memset(big, 0, largest);
+}
+
+static void count_limits(void) {
+    count_of_the_sample();
+    count_of_every_cell();
+    count_over_lines();
+    count_past_the_bound();
+    count_of_the_longest();
+    count_of_nothing();
+    count_of_the_largest();
+}
+
+static uint32_t count_of_a_version(bool due) {
+    uint8_t region[64] = {0};
+    put_sample(region);
+    return due ? count_of_too_large() : count(region, 64).number;
+}
+
+static void count_of_a_card_used_again(void) {
+    uint8_t region[64] = {0};
+    for (size_t i = 0; i < LATER; i++) {
+        bool seen = recycle(region, i);
+        CHECK(counts_of_sample(count(region, 64), seen, seen, seen));
+        /* the later file's first entry is counted, and behind it what was before */
+        put_entry(region, 0, 0, 0, 1, (const uint8_t *)"B2", 2, (const uint8_t *)"5", 1);
+        CHECK(counts_of_sample(count(region, 64), 1, seen, seen));
+    }
+    share_marks(region);
+    CHECK(counts_of_sample(count(region, 64), 1, 1, 1));
+}
+
+/* Regions of 0xff. */
+static void count_of_erased(void) {
+    uint8_t region[64];
+    memset(region, 0xff, 64);
+    rule = (struct rule){LOCKER_VERSION_2, 0xA5E83F};
+    CHECK(is_unknown_at(count(region, 64), 0));
+    CHECK(counts_none(count(region, 7)));
+    rule = (struct rule){LOCKER_VERSION_2, 0xA5E83D};
+    CHECK(is_unknown_at(count(region, 64), 32));
+    CHECK(counts_none(count(region, 39)));
+    rule = (struct rule){LOCKER_VERSION_1, 0xA5E83F};
+    CHECK(counts_none(count(region, 64)));
+    memset(big, 0xff, largest);
+    CHECK(is_unknown_at(count(big, largest), 173966320));
+    memset(big, 0, largest);
+}
+
+static void count_of_any(const uint8_t *region, size_t length) { count(region, length); }
+
+static void try_count_entries(void) {
+    begin("locker_count_entries");
+    under_each_rule(count_limits);
+    under_neither_version(count_of_a_version);
+    count_of_a_card_used_again();
+    count_of_erased();
+    count_of_the_most();
+    under_any_region(count_of_any);
 }
 
 /* ---- replay */
@@ -2177,6 +2490,7 @@ int main(void) {
     try_part();
     try_used_bound();
     try_durable_end();
+    try_count_entries();
     try_replay_data();
     try_replay_tombstone();
     try_start_file();

@@ -24,6 +24,12 @@ impl Header {
     }
 }
 
+/// Document 02's request 9: a row for each type, and in it a column for each namespace.
+pub type Grid = [[u32; 64]; 3];
+
+/// A grid as it is lent and left: row by row, four bytes for each cell.
+pub const GRID_BYTES: usize = 768;
+
 /// A data region: all its bytes, or zeros with one run of bytes put over them. The second form is for regions of hundreds
 /// of megabytes, of which one place is of interest.
 #[derive(Debug, Clone, PartialEq, Eq)]
@@ -116,6 +122,12 @@ pub enum Call {
         header: Header,
         bound: u64,
     },
+    /// How many entries of each type stand in each namespace; the bytes are those of the grid that is lent for it.
+    CountEntries {
+        region: Region,
+        header: Header,
+        lent: Vec<u8>,
+    },
     /// Header, used bound and durable end of a whole file, with what that took, which the original's `open` does in one.
     Boot {
         file: Vec<u8>,
@@ -179,6 +191,7 @@ pub const OPERATIONS: &[Operation] = &[
     Operation { name: "part", answers: &["part", "empty"] },
     Operation { name: "used bound", answers: &["bound", "0", "3"] },
     Operation { name: "durable end", answers: &["end", "0", "2", "3", "4", "10"] },
+    Operation { name: "count entries", answers: &["grid", "empty", "2", "3", "10"] },
     Operation { name: "boot (open)", answers: &["opened", "1", "2", "10"] },
     Operation { name: "reserve", answers: &["reserved", "28", "14", "16", "15", "5", "3", "13"] },
     Operation { name: "complete", answers: &["Done", "Stale", "28", "14"] },
@@ -207,6 +220,7 @@ impl Call {
             Call::Part { .. } => "part",
             Call::UsedBound { .. } => "used bound",
             Call::DurableEnd { .. } => "durable end",
+            Call::CountEntries { .. } => "count entries",
             Call::Boot { .. } => "boot (open)",
             Call::Track { step, .. } => match step {
                 Step::Reserve { .. } => "reserve",
@@ -231,7 +245,8 @@ impl Call {
             | Call::AppendTombstone { header, .. }
             | Call::Walk { header, .. }
             | Call::Listing { header, .. }
-            | Call::DurableEnd { header, .. } => Some(*header),
+            | Call::DurableEnd { header, .. }
+            | Call::CountEntries { header, .. } => Some(*header),
             _ => None,
         }
     }
@@ -299,6 +314,13 @@ impl Call {
                     "end"
                 }
             }
+            Call::CountEntries { .. } => {
+                if said.bytes.iter().all(|&byte| byte == 0) {
+                    "empty"
+                } else {
+                    "grid"
+                }
+            }
             Call::Track { step: Step::Complete { .. } | Step::Abandon { .. }, .. } => {
                 if first == Some(1) {
                     "Done"
@@ -326,6 +348,16 @@ impl Call {
 pub fn eight(offset: u64, kind: u64, ns: u64, klen: u64, vlen: u64, end: u64) -> [u64; 8] {
     let header = if kind == 2 { 6 } else { 8 };
     [offset, kind, ns, klen, vlen, offset + header, offset + header + vlen, end]
+}
+
+pub fn grid_bytes(grid: &Grid) -> Vec<u8> {
+    grid.iter().flatten().flat_map(|cell| cell.to_le_bytes()).collect()
+}
+
+/// The grid in as many bytes as one has.
+pub fn grid_of(bytes: &[u8]) -> Grid {
+    let cell = |i: usize| u32::from_le_bytes(bytes[4 * i..4 * i + 4].try_into().unwrap());
+    std::array::from_fn(|kind| std::array::from_fn(|ns| cell(64 * kind + ns)))
 }
 
 /// A length rounded up to a line.

@@ -1,6 +1,6 @@
 //! Calls as bytes: for the recorded answers, and for printing a call so that it can be asked again. README.md describes the
 //! format. Every call is an operation's number, then its numbers, then its runs of bytes, so one table has them all.
-use crate::calls::{Call, Header, Region, Said, Slot, State, Step};
+use crate::calls::{Call, Header, Region, Said, Slot, State, Step, GRID_BYTES};
 
 /// A call taken apart.
 #[derive(Clone, PartialEq, Eq)]
@@ -14,11 +14,12 @@ pub struct Parts {
 /// How many numbers and how many runs of bytes an operation has.
 fn shape(op: u8) -> Option<(usize, usize)> {
     Some(match op {
-        1 | 2 | 8 | 25 => (0, 1),
-        21 | 22 => (1, 1),
-        3 | 24 => (2, 1),
-        9 | 23 => (3, 1),
+        1 | 2 | 8 | 26 => (0, 1),
+        21 | 23 => (1, 1),
+        3 | 25 => (2, 1),
+        9 | 24 => (3, 1),
         4 | 7 => (4, 1),
+        22 => (2, 2),
         5 => (5, 3),
         6 => (4, 2),
         11 => (6, 0),
@@ -79,10 +80,12 @@ impl Call {
                 let bytes: Vec<u8> = ordinals.iter().flat_map(|ordinal| ordinal.to_le_bytes()).collect();
                 parts(21, &[*cursor], vec![dense(&bytes)])
             }
-            Call::Update { state, bytes } => parts(22, &[u64::from(*state)], vec![dense(bytes)]),
-            Call::Listing { region, header, bound } => under(23, header, &[*bound], vec![region.clone()]),
-            Call::Part { region, at, len } => parts(24, &[*at, *len], vec![region.clone()]),
-            Call::Boot { file } => parts(25, &[], vec![dense(file)]),
+            Call::CountEntries { region, header, lent } => under(22, header, &[], vec![dense(lent), region.clone()]),
+            // These aren't recorded.
+            Call::Update { state, bytes } => parts(23, &[u64::from(*state)], vec![dense(bytes)]),
+            Call::Listing { region, header, bound } => under(24, header, &[*bound], vec![region.clone()]),
+            Call::Part { region, at, len } => parts(25, &[*at, *len], vec![region.clone()]),
+            Call::Boot { file } => parts(26, &[], vec![dense(file)]),
         }
     }
 }
@@ -129,9 +132,13 @@ impl Parts {
                     bytes(0)?.chunks_exact(8).map(|word| u64::from_le_bytes(word.try_into().unwrap())).collect();
                 Call::StartFile { ordinals, cursor: n(0) }
             }
-            22 => Call::Update { state: n(0) as u16, bytes: bytes(0)? },
-            23 => Call::Listing { region: region(), header: header(), bound: n(2) },
-            24 => Call::Part { region: Region::Dense(bytes(0)?), at: n(0), len: n(1) },
+            22 => {
+                let lent = bytes(0).filter(|lent| lent.len() == GRID_BYTES)?;
+                Call::CountEntries { region: self.blobs[1].clone(), header: header(), lent }
+            }
+            23 => Call::Update { state: n(0) as u16, bytes: bytes(0)? },
+            24 => Call::Listing { region: region(), header: header(), bound: n(2) },
+            25 => Call::Part { region: Region::Dense(bytes(0)?), at: n(0), len: n(1) },
             _ => Call::Boot { file: bytes(0)? },
         })
     }

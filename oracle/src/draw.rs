@@ -1,7 +1,7 @@
 //! Inputs at random: logs, damaged logs, nested entries, entries flush with the region's end, marks without entries,
 //! hostile regions, and traces of the tracker. Most are small, because most that can go wrong does so on a few lines.
 use crate::{
-    calls::{up16, Call, Header, Region, Said, Slot, State, Step, HEADER, MAX_REGION},
+    calls::{up16, Call, Header, Region, Said, Slot, State, Step, GRID_BYTES, HEADER, MAX_REGION},
     rng::Rng,
 };
 
@@ -66,6 +66,19 @@ pub fn hostile(header: Header, length: usize, last: [u8; 2]) -> Vec<u8> {
     region
 }
 
+/// An entry whose last bytes are zeros, so many of them and both of its checksum: the first two bytes of its value, or of a
+/// tombstone's key, bring the sum to 0, and zeros leave it there.
+pub fn ending_in_zeros(header: Header, p: usize, kind: u32, ns: u32, zeros: usize) -> Vec<u8> {
+    let body = vec![0; 2 + zeros];
+    let (key, value) = if kind == 2 { (&body[..], &[][..]) } else { (&[][..], &body[..]) };
+    let mut bytes = entry(header, p, kind, ns, kind == 2, key, value);
+    let (before, end) = (if kind == 2 { 6 } else { 8 }, bytes.len() - 2);
+    let sum = crc16_ibm3740_fast::hash(&bytes[..before]) as u16;
+    bytes[before..before + 2].copy_from_slice(&sum.to_be_bytes());
+    bytes[end..].fill(0);
+    bytes
+}
+
 /// Puts as many of the bytes over the region as it has room for.
 pub fn put(region: &mut [u8], at: usize, bytes: &[u8]) {
     if at < region.len() {
@@ -80,9 +93,10 @@ pub fn fresh_state() -> State {
 
 pub struct Draw {
     pub rng: Rng,
-    /// Versions and ordinals have a stream of their own, and so have hostile regions.
+    /// Versions and ordinals have a stream of their own, and so have hostile regions and the counts of entries.
     versions: Rng,
     efforts: Rng,
+    counts: Rng,
     /// What the call is given, and whose marks its region is built with.
     header: Header,
     built: Header,
@@ -99,6 +113,7 @@ impl Draw {
             rng: Rng::new(seed),
             versions: Rng::new(!seed),
             efforts: Rng::new(seed ^ (1 << 63)),
+            counts: Rng::new(seed ^ (1 << 62)),
             header: PLAIN,
             built: PLAIN,
             trace: fresh_state(),
@@ -108,10 +123,18 @@ impl Draw {
         }
     }
 
+    /// One call in sixteen counts entries; the others are a seed's calls in their order.
+    pub fn call(&mut self) -> Call {
+        if self.counts.once_in(16) {
+            return self.count_entries();
+        }
+        self.other_call()
+    }
+
     /// A call with a version is drawn twice from one place of the stream, since it depends on the region's bytes how
     /// much of the stream a draw takes: first with version 1's marks, for the place at which the next call begins, so
     /// that a seed's other calls are the same whatever the versions; then with its own.
-    pub fn call(&mut self) -> Call {
+    pub fn other_call(&mut self) -> Call {
         let begin = self.rng.clone();
         let call = self.some_call();
         if !call.has_version() {
@@ -640,6 +663,63 @@ impl Draw {
         let region = self.dense();
         let bound = self.bound(region.len());
         Call::DurableEnd { region, header: self.header, bound }
+    }
+
+    /// All that such a call draws comes from its own stream, the version too.
+    pub fn count_entries(&mut self) -> Call {
+        std::mem::swap(&mut self.rng, &mut self.counts);
+        let own = Rng::new(self.rng.next());
+        let versions = std::mem::replace(&mut self.versions, own);
+        self.header = self.some_header();
+        self.built = self.builder();
+        let region = self.counted_region();
+        let lent = if self.rng.once_in(2) { vec![0; GRID_BYTES] } else { self.rng.bytes(GRID_BYTES) };
+        let call = Call::CountEntries { region, header: self.header, lent };
+        (self.versions, self.header, self.built) = (versions, PLAIN, PLAIN);
+        std::mem::swap(&mut self.rng, &mut self.counts);
+        call
+    }
+
+    /// Mostly a region as others have it. Else one that is too large, whatever stands in it, a crowd, an entry that
+    /// reaches past the used bound, or a hostile region.
+    fn counted_region(&mut self) -> Region {
+        let bytes = match self.rng.below(32) {
+            0 => {
+                let length = MAX_REGION + 1 + self.rng.below(64) as usize;
+                return Region::Sparse { length, at: 0, bytes: self.some_entry(0, 100) };
+            }
+            1..=2 => self.crowd(),
+            3..=4 => self.past_used_bound(),
+            5..=7 => self.hostile_region(),
+            _ => self.bytes_of_region(),
+        };
+        Region::Dense(bytes)
+    }
+
+    /// Short entries edge to edge, many of one kind, and with few keys.
+    fn crowd(&mut self) -> Vec<u8> {
+        let entries = self.rng.pick(&[10, 40, 40, 600]);
+        let (kinds, namespaces) = (self.rng.within(1, 3), self.rng.pick(&[1, 2, 8, 64]));
+        let mut region = Vec::new();
+        for _ in 0..self.rng.below(entries) {
+            let (kind, ns) = (self.rng.below(kinds) as u32, self.rng.below(namespaces) as u32);
+            let key = vec![b'k'; self.rng.below(3) as usize];
+            region.extend(entry(self.built, region.len(), kind, ns, kind == 2, &key, &[]));
+            region.resize(up16(region.len() as u64) as usize, 0xff);
+        }
+        region
+    }
+
+    /// A log, and behind it an entry that ends in zeros: flush with the region's end, before it, or one byte past it.
+    fn past_used_bound(&mut self) -> Vec<u8> {
+        let line = 16 * self.rng.below(8) as usize;
+        let (kind, ns, zeros) = (self.rng.below(3) as u32, self.rng.below(64) as u32, self.rng.below(60) as usize);
+        let written = ending_in_zeros(self.built, line, kind, ns, zeros);
+        let behind = self.rng.pick(&[0, 0, 1, 2, 20]);
+        let mut region = vec![0; line + written.len() + behind - 1];
+        self.log(&mut region[..line]);
+        put(&mut region, line, &written);
+        region
     }
 
     fn part(&mut self) -> Call {

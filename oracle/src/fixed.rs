@@ -2,7 +2,7 @@
 use std::collections::BTreeSet;
 
 use crate::{
-    calls::{up16, Call, Header, Region, Slot, State, Step, HEADER, MAX_REGION},
+    calls::{grid_bytes, up16, Call, Header, Region, Slot, State, Step, HEADER, MAX_REGION},
     draw::{self, fresh_state, mark_zero, put, BUFFER_END, FILLING_ORDINAL, NO_VERSIONS},
 };
 
@@ -741,6 +741,90 @@ fn nested_entries() -> Calls {
     Box::new(calls.into_iter())
 }
 
+// ---- grids
+
+/// A count into a grid that has another number in each cell, so that a cell that isn't written, or shouldn't be, is seen.
+fn counting(header: Header, region: Region) -> Call {
+    let lent = std::array::from_fn(|kind| std::array::from_fn(|ns| (64 * kind + ns + 1) as u32 * 0x0101_0101));
+    Call::CountEntries { region, header, lent: grid_bytes(&lent) }
+}
+
+/// The regions of the durable ends above that go to the region's end.
+fn counted_regions() -> Calls {
+    let groups = [
+        large_regions(),
+        long_entries(),
+        small_logs(),
+        short_walks(),
+        version_limits(),
+        filled_lines(),
+        recycled_cards(),
+        last_entries(),
+        unknown_types(),
+        nested_entries(),
+    ];
+    Box::new(groups.into_iter().flatten().filter_map(|call| match call {
+        Call::DurableEnd { region, header, bound } if bound == region.len() as u64 => Some(counting(header, region)),
+        _ => None,
+    }))
+}
+
+/// A log with the least entry of each of these kinds, in their order: 64 for each type, one for each of its namespaces.
+/// From 192 on they are of type 3.
+pub fn log_of(header: Header, kinds: impl IntoIterator<Item = usize>) -> Vec<u8> {
+    let mut bytes = Vec::new();
+    for kind in kinds {
+        let (ns, kind) = (kind as u32 % 64, kind as u32 / 64);
+        bytes.extend(draw::entry(header, bytes.len(), kind, ns, kind == 2, &[], &[]));
+        bytes.resize(up16(bytes.len() as u64) as usize, 0xff);
+    }
+    bytes
+}
+
+/// Each kind alone; all of them, up and down, with type 3 before them, among them and behind them; another number of each;
+/// and more of one kind than one byte holds, and two.
+fn kinds() -> Calls {
+    Box::new(counted_files().into_iter().flat_map(|header| {
+        let logs = move |kinds: Vec<usize>| counting(header, region(log_of(header, kinds)));
+        let alone = (0..192).map(move |kind| logs(vec![kind]));
+        let unknown = [0, 1, 96, 191, 192].map(|before| (0..before).chain([255]).chain(before..192).collect());
+        let numbers = (0..192).flat_map(|kind| vec![kind; kind + 1]).collect();
+        let all =
+            [(0..192).collect(), (0..192).rev().collect(), numbers, vec![69; 255], vec![69; 256], vec![191; 65_537]];
+        alone.chain(unknown.into_iter().chain(all).map(logs))
+    }))
+}
+
+/// Entries that end in zeros, most of them past the used bound: flush with the region's end, one byte past it, before it.
+fn zero_ends() -> Calls {
+    Box::new(counted_files().into_iter().flat_map(|header| {
+        (0..3 * 40).flat_map(move |i| {
+            let (kind, zeros) = (i % 3, i as usize / 3);
+            [0, 32].into_iter().flat_map(move |p| {
+                let written = draw::ending_in_zeros(header, p, kind, 63, zeros);
+                let end = p + written.len();
+                [end - 1, end, end + 1, end + 40].map(|length| {
+                    let mut bytes = log_of(header, vec![1; p / 16]);
+                    bytes.resize(length, 0);
+                    put(&mut bytes, p, &written);
+                    counting(header, region(bytes))
+                })
+            })
+        })
+    }))
+}
+
+/// The largest region and its neighbours: nothing in it, an entry, type 3; and type 3 a mebibyte on.
+fn large_counts() -> Calls {
+    let lengths = [MAX_REGION - 1, MAX_REGION, MAX_REGION + 1];
+    let starts = lengths.into_iter().flat_map(|length| {
+        let some = [entry(0, 2, 63, true, b"A7", &[]), vec![], entry(0, 3, 1, false, &[], &[])];
+        some.map(|bytes| Region::Sparse { length, at: 0, bytes })
+    });
+    let far = Region::Sparse { length: MAX_REGION, at: 1 << 20, bytes: entry(1 << 20, 3, 1, false, &[], &[]) };
+    Box::new(starts.chain([far]).map(|region| counting(FIRST, region)))
+}
+
 /// All calls that stand for themselves. New groups stand behind the others: of these a sample is recorded by place.
 pub fn calls() -> impl Iterator<Item = Call> {
     let groups: Vec<Calls> = vec![
@@ -773,6 +857,10 @@ pub fn calls() -> impl Iterator<Item = Call> {
         last_entries(),
         unknown_types(),
         nested_entries(),
+        counted_regions(),
+        kinds(),
+        zero_ends(),
+        large_counts(),
     ];
     groups.into_iter().flatten()
 }

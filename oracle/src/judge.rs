@@ -12,7 +12,7 @@ use std::{
 use original::{Buffer, Failure, File, Found, Opened, Tracker};
 
 use crate::{
-    calls::{eight, up16, Call, Effort, Header, Region, Said, State, Step, HEADER, MAX_REGION},
+    calls::{eight, grid_bytes, up16, Call, Effort, Grid, Header, Region, Said, State, Step, HEADER, MAX_REGION},
     draw::put,
     library::{listing, window},
     paper::{ascends, fits},
@@ -76,6 +76,7 @@ pub struct Judge {
     /// A scan of all of a too large region takes a quarter of a second: the original is asked for the first of them.
     large_bound_asked: bool,
     large_end_asked: bool,
+    large_count_asked: bool,
 }
 
 /// A file in memory, where there is such a folder, so that no disk slows the comparison.
@@ -218,11 +219,12 @@ fn in_either_version(file: &[u8], parting: &'static str, ask: impl Fn(&[u8]) -> 
     parted(right, parting)
 }
 
-/// What an append may write to, with some bytes around it, as it is lent.
+/// What an append may write to, with some bytes around it, or the grid for a count, as it is lent.
 fn lent_to(call: &Call) -> Vec<u8> {
     let (region, used, length) = match call {
         Call::AppendData { region, used, key, value, .. } => (region, *used, 10 + key.len() + value.len()),
         Call::AppendTombstone { region, used, key, .. } => (region, *used, 8 + key.len()),
+        Call::CountEntries { lent, .. } => return lent.clone(),
         _ => return vec![],
     };
     let window = window(region, used, up16(length as u64));
@@ -251,6 +253,7 @@ impl Judge {
             zeros: vec![0; LONGEST],
             large_bound_asked: false,
             large_end_asked: false,
+            large_count_asked: false,
         }
     }
 
@@ -278,6 +281,7 @@ impl Judge {
             Call::Part { region, at, len } => part(region, *at, *len),
             Call::UsedBound { region } => self.used_bound(region),
             Call::DurableEnd { region, bound, .. } => self.durable_end(region, *bound),
+            Call::CountEntries { region, lent, .. } => self.count_entries(region, lent),
             Call::Boot { file } => self.boot(file),
             Call::Track { state, step } => self.track(state, step),
             Call::ReplayData { klen, vlen, maximum } => self.replay(*klen, Some(*vlen), *maximum),
@@ -489,17 +493,7 @@ impl Judge {
         if bound > region.len() as u64 {
             return parted(Said::refused(4), "walk: bound over the region (walked to its end)");
         }
-        self.look(region, |file| {
-            let mut kept = Buffer::default();
-            let mut wrong = None;
-            let said = listing(|offset| {
-                walked(file, bound, offset, &mut kept).unwrap_or_else(|why| {
-                    wrong = Some(why);
-                    Said::refused(901)
-                })
-            });
-            wrong.map_or(same(said), Err)
-        })
+        self.look(region, |file| same(listed(file, bound)?))
     }
 
     fn used_bound(&mut self, region: &Region) -> Judgement {
@@ -544,6 +538,31 @@ impl Judge {
                     let place = least_line(0, bound, |bound| file.durable_end(bound).is_err());
                     same(Said { number, ..Said::values(&[place, lines, bytes]) })
                 }
+            }
+        })
+    }
+
+    /// The original has no such call. The grid is made of its own answers: the used bound that it finds, and each entry
+    /// that it lists up to there.
+    fn count_entries(&mut self, region: &Region, lent: &[u8]) -> Judgement {
+        let left = |said: Said| Said { bytes: lent.to_vec(), ..said };
+        let total = region.len() as u64;
+        if region.len() > MAX_REGION {
+            if !std::mem::replace(&mut self.large_count_asked, true) {
+                goes_on(&self.look(region, |file| {
+                    let bound = file.used_bound(total)?;
+                    file.walk(bound, 0, &mut Buffer::default())
+                }))?;
+            }
+            return parted(left(Said::refused(3)), "count entries: region over 268,435,456 (walked)");
+        }
+        self.look(region, |file| {
+            let bound = file.used_bound(total).map_err(|failure| format!("used bound: {failure:?}"))?;
+            let said = listed(file, bound)?;
+            match (said.number, &said.values[..]) {
+                (0, values) => same(Said { bytes: grid_bytes(&counted(values)), ..Default::default() }),
+                (number, &[.., place]) => same(left(Said { number, ..Said::values(&[place]) })),
+                (number, []) => Err(format!("the listing ends with {number}, and tells no place")),
             }
         })
     }
@@ -713,6 +732,28 @@ fn walked(file: &mut File, bound: u64, offset: u64, buffer: &mut Buffer) -> Resu
             Ok(Said { number, values: vec![least_line(offset, bound, meets)], ..Default::default() })
         }
     }
+}
+
+/// The listing up to a bound, with the read buffer kept.
+fn listed(file: &mut File, bound: u64) -> Result<Said, String> {
+    let mut kept = Buffer::default();
+    let mut wrong = None;
+    let said = listing(|offset| {
+        walked(file, bound, offset, &mut kept).unwrap_or_else(|why| {
+            wrong = Some(why);
+            Said::refused(901)
+        })
+    });
+    wrong.map_or(Ok(said), Err)
+}
+
+/// A listing's entries, each counted by its type and namespace. An entry has nine values, and End one.
+fn counted(listed: &[u64]) -> Grid {
+    let mut grid = [[0; 64]; 3];
+    for entry in listed.chunks_exact(9) {
+        grid[entry[2] as usize][entry[3] as usize] += 1;
+    }
+    grid
 }
 
 /// A bound past the region's end is as good as its end to the original, but for offsets that no file has.

@@ -2,7 +2,7 @@
 //! bytes alone, which is looked at here: an answer that doesn't keep to it gets a number that no table has.
 use locker_log::sys::{self, RawEffort, RawEntry};
 
-use crate::calls::{Call, Header, Region, Said, HEADER, MAX_REGION};
+use crate::calls::{grid_bytes, grid_of, Call, Grid, Header, Region, Said, HEADER, MAX_REGION};
 
 mod tracker;
 
@@ -191,6 +191,45 @@ fn durable_end(region: &[u8], header: Header, bound: u64) -> Said {
     outs.said(number)
 }
 
+/// What a count of entries writes to.
+pub struct CountOuts {
+    pub grid: Grid,
+    pub place: u64,
+}
+
+impl CountOuts {
+    /// The grid that the call is lent, and a place that it must leave alone but with 10.
+    pub fn lent(bytes: &[u8]) -> Self {
+        CountOuts { grid: grid_of(bytes), place: UNTOUCHED }
+    }
+
+    /// The answer with this number, and the grid as it was left.
+    pub fn said(self, number: u32) -> Said {
+        let values = match (number, self.place) {
+            (10, place) => vec![place],
+            (_, UNTOUCHED) => vec![],
+            _ => return Said::refused(WROTE),
+        };
+        Said { number, values, bytes: grid_bytes(&self.grid), ..Default::default() }
+    }
+}
+
+fn count_entries(region: &[u8], header: Header, lent: &[u8]) -> Said {
+    let mut outs = CountOuts::lent(lent);
+    // SAFETY: as above.
+    let number = unsafe {
+        sys::locker_count_entries(
+            region.as_ptr(),
+            region.len(),
+            header.version,
+            header.ordinal,
+            &mut outs.grid,
+            &mut outs.place,
+        )
+    };
+    outs.said(number)
+}
+
 fn read_header(bytes: &[u8]) -> Said {
     let (mut version, mut ordinal) = (UNTOUCHED, UNTOUCHED);
     // SAFETY: as above.
@@ -347,6 +386,9 @@ impl Side for Library {
             }),
             Call::UsedBound { region } => self.look(region, used_bound),
             Call::DurableEnd { region, header, bound } => self.look(region, |lent| durable_end(lent, *header, *bound)),
+            Call::CountEntries { region, header, lent: grid } => {
+                self.look(region, |lent| count_entries(lent, *header, grid))
+            }
             Call::Boot { file } => boot(file),
             Call::Track { state, step } => tracker::track(state, step),
             Call::ReplayData { klen, vlen, maximum } => {

@@ -1,12 +1,12 @@
-//! Document 01 written out as a plain program, with document 02's requests 4 to 6, 8 and 10: a third opinion, and the
+//! Document 01 written out as a plain program, with document 02's requests 4 to 6 and 8 to 10: a third opinion, and the
 //! place where `oracle/awake` plants its slips. With no slip it has to agree with the original as the library does.
 use std::collections::BTreeSet;
 
 use locker_log::sys::RawEffort;
 
 use crate::{
-    calls::{eight, up16, Call, Header, Region, Said, Slot, State, Step, HEADER, MAX_REGION},
-    library::{booted, listing, window, EndOuts, Side},
+    calls::{eight, up16, Call, Grid, Header, Region, Said, Slot, State, Step, HEADER, MAX_REGION},
+    library::{booted, listing, window, CountOuts, EndOuts, Side},
 };
 
 /// Every slip that can be planted: its name, and what a program with it does.
@@ -95,6 +95,30 @@ pub const SLIPS: &[(&str, &str)] = &[
     ("effort-with-2", "durable end: counts of 0 and 0 are written with 2"),
     ("effort-with-3", "durable end: counts of 0 and 0 are written with 3"),
     ("effort-with-4", "durable end: counts of 0 and 0 are written with 4"),
+    ("counts-exchanged", "count entries: rows and columns are exchanged"),
+    ("counts-no-tombstones", "count entries: tombstones aren't counted"),
+    ("counts-update-as-insert", "count entries: updates are counted as inserts"),
+    ("counts-namespace-32", "count entries: the namespace is taken modulo 32"),
+    ("counts-8-bits", "count entries: a cell is taken modulo 256"),
+    ("counts-without-first", "count entries: the first entry isn't counted"),
+    ("counts-without-last", "count entries: the last entry isn't counted"),
+    ("counts-keys", "count entries: an entry whose key stood there before isn't counted"),
+    ("counts-nested", "count entries: goes on by a line, and counts entries inside others too"),
+    ("counts-stops", "count entries: stops at the first bad checksum"),
+    ("counts-under-1", "count entries: the marks of version 1, whatever the version"),
+    ("counts-within-bound", "count entries: an entry has to lie within the used bound instead of the region"),
+    ("counts-bound-uncapped", "count entries: the used bound isn't capped at the region's length, and 4 is given"),
+    ("counts-on-past-3", "count entries: a line of type 3 is passed over"),
+    ("counts-version-late", "count entries: 2 is given after 3"),
+    ("counts-so-far-with-10", "count entries: what was counted before 10 is handed back"),
+    ("counts-zeros-with-10", "count entries: the grid becomes zeros with 10"),
+    ("counts-zeros-with-2", "count entries: the grid becomes zeros with 2"),
+    ("counts-zeros-with-3", "count entries: the grid becomes zeros with 3"),
+    ("counts-no-place", "count entries: no place with 10"),
+    ("counts-place-of-end", "count entries: with 10 the end of the last counted entry"),
+    ("counts-place-with-grid", "count entries: a place beside the grid"),
+    ("counts-added", "count entries: the counts are added to what the grid held"),
+    ("counts-zeros-left", "count entries: a cell without an entry is left as it was"),
     ("tracker-number-reused", "record: the next number isn't taken"),
     ("tracker-limit-included", "checkpoint: the limit itself is counted"),
     ("tracker-cursor-offset", "checkpoint: the least offset, whatever the ordinal"),
@@ -574,6 +598,99 @@ impl Paper {
         }
     }
 
+    // ---- grids
+
+    fn count_entries(&self, region: &[u8], header: Header, lent: &[u8]) -> Said {
+        // Some slips in the count are those of what it stands on.
+        let below = Paper::with(match self.slip {
+            "counts-stops" => "walk-stops",
+            "counts-under-1" => "walk-under-1",
+            "counts-within-bound" => "walk-within-bound",
+            "counts-bound-uncapped" => "bound-uncapped",
+            "counts-version-late" => "version-after-region",
+            other => other,
+        });
+        let mut outs = CountOuts::lent(lent);
+        let mut number = below.refusal(header, region.len(), None);
+        if number == 0 {
+            number = self.count_up_to(&below, region, header, below.used_bound(region).values[0], &mut outs);
+        }
+        let with = [("counts-zeros-with-2", 2), ("counts-zeros-with-3", 3), ("counts-zeros-with-10", 10)];
+        if with.contains(&(self.slip, number)) {
+            outs.grid = [[0; 64]; 3];
+        }
+        outs.said(number)
+    }
+
+    fn count_up_to(&self, below: &Self, region: &[u8], header: Header, bound: u64, outs: &mut CountOuts) -> u32 {
+        let (mut counted, mut offset) = (Vec::new(), 0);
+        loop {
+            let said = below.walk(region, header, bound, offset);
+            match (said.number, &said.values[..]) {
+                (0, &[1, p, kind, ns, klen, .., end]) => {
+                    counted.push((kind as usize, ns as usize, said.bytes[..klen as usize].to_vec()));
+                    offset = if self.slips("counts-nested") { p + 1 } else { end };
+                }
+                (0, _) => {
+                    outs.grid = self.grid(counted, &outs.grid);
+                    if self.slips("counts-place-with-grid") {
+                        outs.place = bound;
+                    }
+                    return 0;
+                }
+                (10, &[place]) if self.slips("counts-on-past-3") => offset = place + 1,
+                (10, &[place]) => {
+                    match self.slip {
+                        "counts-no-place" => {}
+                        "counts-place-of-end" => outs.place = offset,
+                        _ => outs.place = place,
+                    }
+                    if self.slips("counts-so-far-with-10") {
+                        outs.grid = self.grid(counted, &outs.grid);
+                    }
+                    return 10;
+                }
+                (number, _) => return number,
+            }
+        }
+    }
+
+    /// Document 02's request 9: each cell is the number of listed entries of that type and namespace. Each entry comes with
+    /// its key.
+    fn grid(&self, mut listed: Vec<(usize, usize, Vec<u8>)>, lent: &Grid) -> Grid {
+        match self.slip {
+            "counts-without-first" => drop(listed.drain(..listed.len().min(1))),
+            "counts-without-last" => drop(listed.pop()),
+            "counts-no-tombstones" => listed.retain(|&(kind, ..)| kind != 2),
+            "counts-update-as-insert" => listed.iter_mut().for_each(|(kind, ..)| *kind -= *kind % 2),
+            "counts-namespace-32" => listed.iter_mut().for_each(|(_, ns, _)| *ns %= 32),
+            "counts-keys" => {
+                let mut known = BTreeSet::new();
+                listed.retain(|(_, ns, key)| known.insert((*ns, key.clone())));
+            }
+            _ => {}
+        }
+        let cell = |kind: usize, ns: usize| {
+            let number = listed.iter().filter(|&&(k, n, _)| (k, n) == (kind, ns)).count() as u32;
+            match self.slip {
+                "counts-8-bits" => number % 256,
+                "counts-added" => number.wrapping_add(lent[kind][ns]),
+                "counts-zeros-left" if number == 0 => lent[kind][ns],
+                _ => number,
+            }
+        };
+        let place = |kind: usize, ns: usize| match self.slip {
+            "counts-exchanged" => ((64 * kind + ns) % 3, (64 * kind + ns) / 3),
+            _ => (kind, ns),
+        };
+        std::array::from_fn(|kind| {
+            std::array::from_fn(|ns| {
+                let (kind, ns) = place(kind, ns);
+                cell(kind, ns)
+            })
+        })
+    }
+
     fn boot(&self, file: &[u8]) -> Said {
         let head = self.read_header(file);
         if head.number != 0 {
@@ -718,6 +835,9 @@ impl Side for Paper {
             Call::UsedBound { region } => self.look(region, |paper, lent| paper.used_bound(lent)),
             Call::DurableEnd { region, header, bound } => {
                 self.look(region, |paper, lent| paper.durable_end(lent, *header, *bound))
+            }
+            Call::CountEntries { region, header, lent: grid } => {
+                self.look(region, |paper, lent| paper.count_entries(lent, *header, grid))
             }
             Call::Boot { file } => self.boot(file),
             Call::Track { state, step } => self.track(state, step),

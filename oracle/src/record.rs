@@ -3,24 +3,27 @@
 use std::collections::BTreeMap;
 
 use crate::{
-    calls::{Call, Header, Region, Said},
+    calls::{Call, Header, Region, Said, GRID_BYTES},
     codec::{write_said, write_state, Record, Records},
     draw::{self, entry, fresh_state, Draw, FILLING_ORDINAL, NO_VERSIONS},
-    fixed::{self, hostile, second, FIRST},
+    fixed::{self, hostile, log_of, second, FIRST},
     judge::{Judge, RECORDED},
     library::Side,
     table::grouped,
 };
 
 /// Of each answer of each operation: so many small calls, and so many of regions up to 70,000 bytes. Where a version
-/// decides, so many small ones of each version, and of those with neither.
+/// decides, so many small ones of each version, and of those with neither; of the counts of entries fewer.
 const SMALL: usize = 48;
 const SMALL_OF_VERSION: usize = 22;
 const SMALL_OF_NEITHER: usize = 4;
+const SMALL_COUNTS: usize = 12;
 const SMALL_BYTES: usize = 420;
 const LARGE: usize = 1;
 const LARGE_BYTES: usize = 5_000;
 const LARGE_REGION: usize = 70_000;
+/// So many counts of entries are drawn for it.
+const COUNTS: usize = 1_000;
 const TRACES: usize = 48;
 const STEPS_IN_TRACE: usize = 30;
 /// After so many calls of a trace its whole state is written.
@@ -41,10 +44,11 @@ fn kind_of(call: &Call, said: &Said, large: bool) -> (&'static str, usize) {
         Call::ReadHeader { .. } => said.values.first().copied(),
         _ => call.header().map(|header| header.version),
     };
+    let of_version = if let Call::CountEntries { .. } = call { SMALL_COUNTS } else { SMALL_OF_VERSION };
     match version {
         None if !large => ("small", SMALL),
-        Some(1) if !large => ("version 1", SMALL_OF_VERSION),
-        Some(2) if !large => ("version 2", SMALL_OF_VERSION),
+        Some(1) if !large => ("version 1", of_version),
+        Some(2) if !large => ("version 2", of_version),
         None | Some(1 | 2) => ("large", LARGE),
         Some(_) => ("neither version", if large { 0 } else { SMALL_OF_NEITHER }),
     }
@@ -55,7 +59,8 @@ fn lent(call: &Call) -> Option<&[u8]> {
     match call {
         Call::WriteHeader { lent, .. } => Some(lent),
         Call::AppendData { region: Region::Dense(bytes), .. }
-        | Call::AppendTombstone { region: Region::Dense(bytes), .. } => Some(bytes),
+        | Call::AppendTombstone { region: Region::Dense(bytes), .. }
+        | Call::CountEntries { lent: bytes, .. } => Some(bytes),
         _ => None,
     }
 }
@@ -65,14 +70,16 @@ fn recorded(call: &Call) -> bool {
         Call::Update { .. } | Call::Listing { .. } | Call::Part { .. } | Call::Boot { .. } | Call::Track { .. } => {
             return false
         }
-        // Those that are short enough are made for it.
+        // Those that are short enough are made for it, and those that are lent no zeros would be too long.
         Call::WriteHeader { .. } => return false,
+        Call::CountEntries { lent, .. } if lent.iter().any(|&byte| byte != 0) => return false,
         Call::ReadAt { region, .. }
         | Call::Walk { region, .. }
         | Call::AppendData { region, .. }
         | Call::AppendTombstone { region, .. }
         | Call::UsedBound { region }
-        | Call::DurableEnd { region, .. } => region,
+        | Call::DurableEnd { region, .. }
+        | Call::CountEntries { region, .. } => region,
         _ => return true,
     };
     matches!(region, Region::Dense(_)) && region.len() <= LARGE_REGION
@@ -223,16 +230,53 @@ fn efforts() -> Vec<Call> {
     calls
 }
 
+/// Counts of entries: all kinds in a file of version 2 and every fifth in one of version 1, more of one kind than one byte
+/// holds, one entry of 13 bytes in as many, none, one that verifies behind one that doesn't, one that reaches past the used
+/// bound, type 3 before and behind others; a log in its own file, in another with its marks and on recycled cards; and each
+/// version that no file has.
+fn grids() -> Vec<Call> {
+    let old = second(5);
+    let log = log_of(old, [1, 70, 191]);
+    let mut asked = vec![
+        (FIRST, log_of(FIRST, (0..192).step_by(5))),
+        (old, log_of(old, (0..192).rev())),
+        (old, log_of(old, vec![191; 257])),
+    ];
+    for header in [FIRST, old] {
+        let mut second_bad = log_of(header, [3, 64, 3, 130]);
+        second_bad[16 + 3] ^= 1;
+        asked.extend([
+            (header, entry(header, 0, 0, 1, false, b"A7", b"9")),
+            (header, vec![]),
+            (header, vec![0; 40]),
+            (header, second_bad),
+            (header, draw::ending_in_zeros(header, 0, 1, 63, 30)),
+            (header, log_of(header, [255, 1])),
+            (header, log_of(header, [1, 70, 191, 192, 1])),
+        ]);
+    }
+    asked.extend([old, second(5 + (1 << 24)), second(6), FIRST].map(|new| (new, log.clone())));
+    asked.extend(NO_VERSIONS.map(|version| (Header { version, ordinal: 5 }, log.clone())));
+    let count =
+        |(header, bytes)| Call::CountEntries { region: Region::Dense(bytes), header, lent: vec![0; GRID_BYTES] };
+    asked.into_iter().map(count).collect()
+}
+
 pub fn record(path: &str, seed: u64) -> std::io::Result<()> {
     let mut recorder = Recorder { judge: Judge::new(), out: Vec::new(), records: 0, met: BTreeMap::new() };
     // Calls at random first, so that the fixed ones, which are many and alike, only fill up.
     let mut draw = Draw::new(seed);
     for _ in 0..60_000 {
-        let call = draw.call();
+        let call = draw.other_call();
         recorder.take(&call);
     }
     fixed::calls().step_by(7).take(60_000).for_each(|call| recorder.take(&call));
     extra().iter().chain(&versions()).chain(&efforts()).for_each(|call| recorder.write(call, false));
+    for _ in 0..COUNTS {
+        let call = draw.count_entries();
+        recorder.take(&call);
+    }
+    grids().iter().for_each(|call| recorder.write(call, false));
     for i in 0..TRACES as u64 {
         recorder.trace(&mut Draw::new(seed + 1 + i));
     }

@@ -2,7 +2,7 @@
 use std::collections::BTreeMap;
 
 use crate::{
-    calls::{Call, Effort, Said, OPERATIONS},
+    calls::{grid_of, Call, Effort, Said, OPERATIONS},
     judge::Judged,
 };
 
@@ -18,6 +18,10 @@ pub struct Table {
     counted: u64,
     in_vain: u64,
     taken: Effort,
+    /// Grids that were told, and by kind the entries that they count.
+    grids: u64,
+    entries: BTreeMap<(usize, usize), u64>,
+    largest: u32,
 }
 
 impl Table {
@@ -33,6 +37,13 @@ impl Table {
             self.taken.bytes += bytes;
             let no_entry = judged.said.number == 0 && matches!(judged.said.values[..], [.., 0, _, _]);
             self.in_vain += u64::from(no_entry && bytes > 0);
+        }
+        if let (Call::CountEntries { .. }, 0) = (call, judged.said.number) {
+            self.grids += 1;
+            for (kind, ns, number) in cells(&judged.said.bytes).filter(|&(.., number)| number != 0) {
+                *self.entries.entry((kind, ns)).or_default() += u64::from(number);
+                self.largest = self.largest.max(number);
+            }
         }
     }
 
@@ -84,6 +95,13 @@ impl Table {
             grouped(bytes)
         );
         println!("{:>11}  of them summed bytes and found no entry", grouped(self.in_vain));
+        println!(
+            "{:>11}  grids of {} entries, of {} of 192 kinds, at most {} in one cell",
+            grouped(self.grids),
+            grouped(self.entries.values().sum()),
+            self.entries.len(),
+            grouped(self.largest.into())
+        );
     }
 
     fn calls_of(&self, operation: &str) -> u64 {
@@ -104,10 +122,29 @@ pub fn grouped(number: u64) -> String {
     grouped
 }
 
+/// A grid's cells, each with its type and its namespace.
+fn cells(bytes: &[u8]) -> impl Iterator<Item = (usize, usize, u32)> {
+    let rows = grid_of(bytes).into_iter().enumerate();
+    rows.flat_map(|(kind, row)| row.into_iter().enumerate().map(move |(ns, number)| (kind, ns, number)))
+}
+
+/// Of a grid the cells that aren't 0; with a refusal those that aren't as they were lent.
+fn shown_grid(lent: &[u8], said: &Said) -> String {
+    let before = if said.number == 0 { vec![0; lent.len()] } else { lent.to_vec() };
+    let others: Vec<_> = cells(&said.bytes).zip(cells(&before)).filter(|(now, before)| now != before).collect();
+    let mut words = format!(", {} cells", others.len());
+    for ((kind, ns, number), _) in others.iter().take(12) {
+        words += &format!(", type {kind} namespace {ns}: {number}");
+    }
+    words
+}
+
 /// An answer in a few words, for a disagreement.
 pub fn shown(call: &Call, said: &Said) -> String {
     let mut words = format!("{} (number {}), values {:?}", call.answer_name(said), said.number, said.values);
-    if !said.bytes.is_empty() {
+    if let (Call::CountEntries { lent, .. }, false) = (call, said.bytes.is_empty()) {
+        words += &shown_grid(lent, said);
+    } else if !said.bytes.is_empty() {
         let shown = &said.bytes[..said.bytes.len().min(96)];
         let more = if said.bytes.len() > shown.len() { ".." } else { "" };
         words += &format!(", {} bytes {}{more}", said.bytes.len(), crate::codec::to_hex(shown));

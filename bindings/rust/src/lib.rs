@@ -17,6 +17,8 @@
 //! assert_eq!((last.key(), last.value()), (&b"A7"[..], &b"9"[..]));
 //! let durable = region.durable_end(bound).unwrap();
 //! assert_eq!((durable.end, durable.effort.lines, durable.effort.bytes), (16, 1, 11));
+//! let counts = region.count_entries().unwrap();
+//! assert_eq!((counts.of(Kind::Insert, 1), counts.of(Kind::Update, 1), counts.total()), (1, 0, 1));
 //!
 //! // the card is used again, as file 8: what file 7 has left isn't seen
 //! let later = Region::new(&bytes, Header { version: 2, ordinal: 8 });
@@ -39,6 +41,12 @@ use sys::{RawEffort, RawEntry};
 
 /// The length of a file's header.
 pub const HEADER_LENGTH: usize = 4096;
+
+/// How many types of entries there are.
+pub const KINDS: usize = 3;
+
+/// How many namespaces there are, from 0 to 63.
+pub const NAMESPACES: usize = 64;
 
 /// What a file's header says: its version, 1 or 2, and its ordinal. Together they decide the marks of its lines. Any
 /// other version may be passed too, and each call that needs a mark refuses it with 2.
@@ -225,6 +233,12 @@ pub struct DurableEnd {
     pub effort: Effort,
 }
 
+/// How many entries of each type stand in each namespace of a region.
+#[derive(Clone, Debug, PartialEq, Eq, Hash)]
+pub struct Counts {
+    rows: [[u32; NAMESPACES]; KINDS],
+}
+
 /// The entries of a region from offset 0 on, each with the region's lifetime; a refusal ends it.
 #[derive(Clone, Debug)]
 pub struct Listing<'a> {
@@ -267,6 +281,25 @@ impl<'a> Region<'a> {
             )
         };
         EndError::check(number, end, place, effort)
+    }
+
+    /// How many entries of each type stand in each namespace, of all that the listing up to the used bound has. Refuses
+    /// 2, 3, then 10 with its place, whatever was counted before it.
+    pub fn count_entries(self) -> Result<Counts, WalkError> {
+        let mut rows = [[0; NAMESPACES]; KINDS];
+        let mut place = 0;
+        // SAFETY: one slice, and a grid and a number of our own.
+        let number = unsafe {
+            sys::locker_count_entries(
+                self.bytes.as_ptr(),
+                self.bytes.len(),
+                self.header.version,
+                self.header.ordinal,
+                &mut rows,
+                &mut place,
+            )
+        };
+        WalkError::check(number, place).map(|()| Counts { rows })
     }
 
     /// The next verified entry from `offset` on, up to `bound`. Refuses 2, 3, 4, then 10 with its place.
@@ -354,6 +387,29 @@ impl<'a> Entry<'a> {
     /// One past its checksum, not rounded up.
     pub fn end(&self) -> usize {
         self.at.end as usize
+    }
+}
+
+impl Counts {
+    /// How many entries of this type stand in this namespace: 0 for one over 63, in which no entry can stand.
+    pub fn of(&self, kind: Kind, namespace: u64) -> u32 {
+        let column = usize::try_from(namespace).unwrap_or(NAMESPACES);
+        self.row(kind).get(column).copied().unwrap_or(0)
+    }
+
+    /// The entries of one type, by their namespaces from 0 to 63.
+    pub fn row(&self, kind: Kind) -> &[u32; NAMESPACES] {
+        &self.rows[kind.number() as usize]
+    }
+
+    /// All cells: a row for each type, inserts first, then updates, then tombstones.
+    pub fn rows(&self) -> &[[u32; NAMESPACES]; KINDS] {
+        &self.rows
+    }
+
+    /// How many entries there are of all types in all namespaces, at most 16,777,216.
+    pub fn total(&self) -> u32 {
+        self.rows.iter().flatten().sum()
     }
 }
 

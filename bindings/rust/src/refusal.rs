@@ -79,10 +79,10 @@ impl fmt::Display for Refusal {
 
 impl core::error::Error for Refusal {}
 
-/// Why a walk refused: as any operation, or at a line of unknown type, with its place.
+/// Why a walk or a count refused: as any operation, or at a line of unknown type, with its place.
 #[derive(Clone, Copy, Debug, PartialEq, Eq, Hash)]
 pub enum WalkError {
-    /// 2, 3 or 4.
+    /// 2, 3 or 4; a count has no bound for 4.
     Refused(Refusal),
     /// 10: the right mark with type 3, at this place.
     UnknownAt(usize),

@@ -62,6 +62,8 @@ const _: () = {
     assert!(size_of::<RawEffort>() == 16);
     assert!(offset_of!(RawEffort, lines) == 0);
     assert!(offset_of!(RawEffort, bytes) == 8);
+    // struct locker_counts
+    assert!(size_of::<[[u32; 64]; 3]>() == 768);
     // struct locker_slot
     assert!(size_of::<Slot>() == 24);
     assert!(offset_of!(Slot, number) == 0);
@@ -153,6 +155,14 @@ extern "C" {
         end: *mut u64,
         place: *mut u64,
         effort: *mut RawEffort,
+    ) -> u32;
+    pub fn locker_count_entries(
+        region: *const u8,
+        length: usize,
+        version: u64,
+        ordinal: u64,
+        grid: *mut [[u32; 64]; 3],
+        place: *mut u64,
     ) -> u32;
     pub fn locker_replay_data(klen: usize, vlen: usize, maximum: usize) -> u32;
     pub fn locker_replay_tombstone(klen: usize, maximum: usize) -> u32;

@@ -1,13 +1,9 @@
 //! What a durable end took, document 02's request 8: lines tried and bytes checksummed, by examples worked out by hand.
 
-use locker_log::{append_data, append_tombstone, hash, DurableEnd, EndError, Header, Kind, Region};
+mod cards;
 
-/// Files of both versions.
-const FILES: [Header; 3] = [
-    Header { version: 1, ordinal: u64::MAX },
-    Header { version: 2, ordinal: 7 },
-    Header { version: 2, ordinal: u64::MAX },
-];
+use cards::{hostile, put_start, sample, FILES};
+use locker_log::{append_data, hash, DurableEnd, EndError, Header, Kind, Region};
 
 /// The most bytes that one line adds: those of an entry whose key and value have 65,535 bytes each, without its checksum.
 const MOST: u64 = 131_078;
@@ -22,24 +18,6 @@ fn told(bytes: &[u8], file: Header, bound: usize) -> (Result<usize, usize>, u64,
     assert!(effort.lines <= bound.div_ceil(16) as u64);
     assert!(effort.bytes <= MOST * effort.lines);
     (at, effort.lines, effort.bytes)
-}
-
-/// Document 01's sample in a file with this header, and a line of zeros behind it: entries of 13, 14 and 10 bytes.
-fn sample(file: Header) -> [u8; 64] {
-    let mut bytes = [0u8; 64];
-    append_data(&mut bytes, file, 0, Kind::Insert, 1, b"A7", b"9").unwrap();
-    append_data(&mut bytes, file, 16, Kind::Update, 1, b"A7", b"10").unwrap();
-    append_tombstone(&mut bytes, file, 32, 1, b"A7").unwrap();
-    bytes
-}
-
-/// Puts the first eight bytes of a data entry at a line, with the right mark and any lengths.
-fn put_start(bytes: &mut [u8], file: Header, line: usize, klen: u16, vlen: u16) {
-    let added = if file.version == 2 { file.ordinal % (1 << 24) } else { 0 };
-    let word = ((line / 16 + 0x5a_17c0) as u64 + added) % (1 << 24);
-    bytes[line..line + 4].copy_from_slice(&(word as u32).to_le_bytes());
-    bytes[line + 4..line + 6].copy_from_slice(&klen.to_le_bytes());
-    bytes[line + 6..line + 8].copy_from_slice(&vlen.to_le_bytes());
 }
 
 #[test]
@@ -132,11 +110,7 @@ fn the_most_that_a_line_adds() {
 fn a_hostile_region() {
     const LINES: usize = 256;
     for file in FILES {
-        let mut bytes = [0x5au8; 16 * LINES];
-        for line in (0..bytes.len()).step_by(16) {
-            let klen = bytes.len() - line - 10;
-            put_start(&mut bytes, file, line, klen as u16, 0);
-        }
+        let bytes = hostile::<{ 16 * LINES }>(file);
         let lines = LINES as u64;
         assert_eq!(told(&bytes, file, bytes.len()), (Ok(0), lines, 8 * lines * lines + 6 * lines));
         assert_eq!(told(&bytes, file, 16), (Ok(0), 1, 16 * lines - 2));

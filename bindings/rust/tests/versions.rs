@@ -1,5 +1,8 @@
 //! Both versions of a file: its marks, what a card that is used again still shows, and versions that are neither.
 
+mod cards;
+
+use cards::sample;
 use locker_log::{
     append_data, append_tombstone, read_header, write_header, DurableEnd, Effort, EndError, Header, Kind, Refusal,
     Region, WalkError, HEADER_LENGTH,
@@ -19,15 +22,6 @@ fn v2(ordinal: u64) -> Header {
 /// A durable end, after so many lines and bytes.
 fn ends(end: usize, lines: u64, bytes: u64) -> Result<DurableEnd, EndError> {
     Ok(DurableEnd { end, effort: Effort { lines, bytes } })
-}
-
-/// Document 01's sample in a file with this header: insert `9`, update `10` and a tombstone of A7 in namespace 1.
-fn sample(file: Header) -> [u8; 64] {
-    let mut bytes = [0u8; 64];
-    let used = append_data(&mut bytes, file, 0, Kind::Insert, 1, b"A7", b"9").unwrap();
-    let used = append_data(&mut bytes, file, used, Kind::Update, 1, b"A7", b"10").unwrap();
-    assert_eq!(append_tombstone(&mut bytes, file, used, 1, b"A7"), Ok(48));
-    bytes
 }
 
 /// The offsets that the listing has if the region is read as this file's.
@@ -127,6 +121,7 @@ fn neither_version_is_refused_before_all_else() {
         for place in [0, 1] {
             assert_eq!(region.read_at(place, 64).unwrap_err(), Refusal::WrongHeader);
         }
+        assert_eq!(region.count_entries(), Err(WalkError::Refused(Refusal::WrongHeader)));
         assert_eq!(region.used_bound(), Ok(48), "it needs no mark");
         let mut listing = region.listing(48);
         assert_eq!(listing.next().unwrap().unwrap_err(), WalkError::Refused(Refusal::WrongHeader));

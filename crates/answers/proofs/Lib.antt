@@ -2,3 +2,4 @@ pub mod Cases
 pub mod Orders
 pub mod Versions
 pub mod Only
+pub mod Outs

@@ -2,9 +2,10 @@
 -- Assumes nothing.
 use Prim.Native.Nat.{ℕ, zero, suc}
 use mathlib.Core.Bool.{Bool, true, false, not}
+use mathlib.Core.List.{List, []}
 use mathlib.Core.Path.{_≡_, refl}
 use native.Mathlib.Omega.{arith}
-use Rattle.answers.specs.Answers.{Said, accepted, pickNumber, unlessRefused}
+use Rattle.answers.specs.Answers.{Said, accepted, refused, pickNumber, unlessRefused}
 
 -- what the test of a negation has found out
 pub not-true : (b : Bool) → not b ≡ true → b ≡ false
@@ -24,3 +25,11 @@ first-passed false n rest e = (refl, e)
 pub accepted-unrefused : {A : Type 0} (n : ℕ) (answer : Said A) {a : A} → unlessRefused n answer ≡ accepted a → (n ≡ 0) × (answer ≡ accepted a)
 accepted-unrefused zero answer e = (refl, e)
 accepted-unrefused (suc n) answer e = let z : _≡_ {A = ℕ} 0 1 = cc in absurd (omega arith)
+
+-- a refusal that comes before an answer that is accepted comes before any other
+pub refused-first : {A B : Type 0} (n : ℕ) (a : A) (answer : Said B) {number : ℕ} {values : List ℕ} → unlessRefused n (accepted a) ≡ refused number values → unlessRefused n answer ≡ refused number values
+refused-first zero a answer e = absurd (let z : _≡_ {A = ℕ} 0 1 = cc in omega arith)
+refused-first (suc n) a answer {number} {values} e =
+    let k : suc n ≡ number = cc in
+    let v : _≡_ {A = List ℕ} [] values = cc in
+    cc

@@ -45,3 +45,9 @@ numberSaid (refused n values) = n
 abbrev pub valueOut : {A : Type 0} → Said A → A → A
 valueOut (accepted value) old = value
 valueOut (refused n values) old = old
+
+-- "(10 also its place)": what the place's out parameter holds afterwards, the place that goes with the refusal, or what stood there
+abbrev pub placeOut : {A : Type 0} → Said A → ℕ → ℕ
+placeOut (accepted a) old = old
+placeOut (refused n []) old = old
+placeOut (refused n (p ∷ values)) old = p

@@ -7,48 +7,13 @@
 ghost use mathlib.Core.Path.{_≡_};
 ghost use Prim.Native.Nat.{_+_, _*_, _/_, _≤_};
 ghost use lib.ListN.{length};
-use answers::Refusal;
+use card::write;
+use card::write_end;
+use card::write_number;
 use header::HeaderRead;
-use libc::STDERR_FILENO;
 use libc::STDIN_FILENO;
-use libc::STDOUT_FILENO;
 use tail::DurableEnd;
 use tail::UsedBound;
-
-// The header's 4,096 bytes, and 1,048,576 bytes of data.
-const LARGEST_CARD: usize = 1052672;
-
-fn write(text: &[u8]) {
-    io::write_all(STDOUT_FILENO, text);
-}
-
-fn write_number(n: usize) {
-    io::print_decimal(STDOUT_FILENO, n as u64);
-}
-
-fn write_refusal(refusal: Refusal) {
-    write(b"refused ");
-    io::print_decimal(STDOUT_FILENO, answers::number(refusal) as u64);
-}
-
-// The last line.
-fn write_end(end: DurableEnd) {
-    match end {
-        DurableEnd::End(n) => {
-            write(b"end ");
-            write_number(n);
-        }
-        DurableEnd::Refused(refusal) => {
-            write_refusal(refusal);
-        }
-        DurableEnd::UnknownAt(p) => {
-            write_refusal(Refusal::UnknownType);
-            write(b" at ");
-            write_number(p);
-        }
-    }
-    write(b"\n");
-}
 
 // A count beside its bound, and in words what that bound is. No count is ever written beside a bound
 // that it exceeds: callers prove that it doesn't.
@@ -124,52 +89,10 @@ fn report_card(card: &[u8])
     }
 }
 
-// What one read more shows, once the card is read.
-enum Rest {
-    Nothing,
-    More,
-    Unreadable,
-}
-
-fn rest_of_input() -> Rest {
-    let mut one = [0u8; 1];
-    let got = libc::read(STDIN_FILENO, &mut one);
-    if got < 0 {
-        return Rest::Unreadable;
-    }
-    if got == 0 {
-        return Rest::Nothing;
-    }
-    Rest::More
-}
-
-// Of a card that was not read to its end the counts would be too low without a word. Standard output
-// has only what is told of whole cards, so this goes to standard error.
-fn write_unreadable() {
-    io::write_all(STDERR_FILENO, b"effort: standard input can't be read\n");
-}
-
-fn report_input(room: &mut [u8])
-    requires { ⌜ length (now room) ≤ 1052672 ⌝ }
-{
-    let n = io::read_full(STDIN_FILENO, room);
-    let rest = rest_of_input();
-    match rest {
-        Rest::Nothing => report_card(&room[..n]),
-        Rest::More => {
-            if n < room.len() {
-                // a read failed before, and this one did not
-                write_unreadable();
-            } else {
-                write_end(DurableEnd::Refused(Refusal::RegionTooLarge));
-            }
-        }
-        Rest::Unreadable => write_unreadable(),
-    }
-}
-
-// The room is a mebibyte of the eight that Linux gives a program's stack.
 fn main() {
-    let mut room = [0u8; LARGEST_CARD];
-    report_input(&mut room);
+    let mut room = card::room();
+    let n = io::read_full(STDIN_FILENO, &mut room);
+    if card::is_whole(n, room.len(), b"effort") {
+        report_card(&room[..n]);
+    }
 }

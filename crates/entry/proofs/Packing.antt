@@ -30,6 +30,10 @@ pub kind-lt : (word : ℕ) → wordKind word < 2 ^ 2
 unfolding wordKind
 kind-lt word = omega arith
 
+pub namespace-lt : (word : ℕ) → wordNamespace word < 2 ^ 6
+unfolding wordNamespace
+namespace-lt word = omega arith
+
 pub mark-lt : (seed p : ℕ) → markFrom seed p < 2 ^ 24
 unfolding markFrom
 mark-lt seed p = omega arith

@@ -26,6 +26,10 @@ pub entry-kind : (s : List ℕ) (p : ℕ) → entryAt s p .kind ≡ wordKind (fi
 unfolding entryAt placed
 entry-kind s p = refl
 
+pub entry-namespace : (s : List ℕ) (p : ℕ) → entryAt s p .ns ≡ wordNamespace (field 4 s p)
+unfolding entryAt placed
+entry-namespace s p = refl
+
 pub entry-offset : (s : List ℕ) (p : ℕ) → entryAt s p .offset ≡ p
 unfolding entryAt placed
 entry-offset s p = refl

@@ -12,28 +12,16 @@ ghost use Rattle.answers.specs.Limits.{largestRegion};
 ghost use Rattle.answers.specs.Versions.{isVersion};
 ghost use Rattle.entry.specs.Words.{markOf};
 ghost use Rattle.tail.specs.Tail.{saidDurable, durableOf};
-use answers::Refusal;
+use card::write;
+use card::write_end;
+use card::write_number;
 use entry::Entry;
 use header::HeaderRead;
-use libc::STDERR_FILENO;
 use libc::STDIN_FILENO;
 use libc::STDOUT_FILENO;
 use scan::Walked;
 use tail::DurableEnd;
 use tail::UsedBound;
-
-fn write(text: &[u8]) {
-    io::write_all(STDOUT_FILENO, text);
-}
-
-fn write_number(n: usize) {
-    io::print_decimal(STDOUT_FILENO, n as u64);
-}
-
-fn write_refusal(refusal: Refusal) {
-    write(b"refused ");
-    io::print_decimal(STDOUT_FILENO, answers::number(refusal) as u64);
-}
 
 // The types that a verified entry has: 0, 1 and 2.
 fn write_kind(kind: u64) {
@@ -52,25 +40,6 @@ fn write_entry(e: Entry) {
     write_number(e.klen);
     write(b" ");
     write_number(e.vlen);
-    write(b"\n");
-}
-
-// The last line.
-fn write_end(end: DurableEnd) {
-    match end {
-        DurableEnd::End(n) => {
-            write(b"end ");
-            write_number(n);
-        }
-        DurableEnd::Refused(refusal) => {
-            write_refusal(refusal);
-        }
-        DurableEnd::UnknownAt(p) => {
-            write_refusal(Refusal::UnknownType);
-            write(b" at ");
-            write_number(p);
-        }
-    }
     write(b"\n");
 }
 
@@ -128,46 +97,11 @@ fn list_card(card: &[u8])
     }
 }
 
-// What one read more shows, once the card is read.
-enum Rest {
-    Nothing,
-    More,
-    Unreadable,
-}
-
-fn rest_of_input() -> Rest {
-    let mut one = [0u8; 1];
-    let got = libc::read(STDIN_FILENO, &mut one);
-    if got < 0 {
-        return Rest::Unreadable;
-    }
-    if got == 0 {
-        return Rest::Nothing;
-    }
-    Rest::More
-}
-
-// A card that was not read to its end is not listed, since its last entries would be missing without
-// a word. Standard output has only what document 01 names, so this goes to standard error.
-fn write_unreadable() {
-    io::write_all(STDERR_FILENO, b"lister: standard input can't be read\n");
-}
-
 // The buffer holds the 65,536 bytes that a card may have.
 fn main() {
-    let mut card = io::large_buffer();
-    let n = io::read_full(STDIN_FILENO, &mut card);
-    let rest = rest_of_input();
-    match rest {
-        Rest::Nothing => list_card(&card[..n]),
-        Rest::More => {
-            if n < 65536 {
-                // a read failed before, and this one did not
-                write_unreadable();
-            } else {
-                write_end(DurableEnd::Refused(Refusal::RegionTooLarge));
-            }
-        }
-        Rest::Unreadable => write_unreadable(),
+    let mut room = io::large_buffer();
+    let n = io::read_full(STDIN_FILENO, &mut room);
+    if card::is_whole(n, room.len(), b"lister") {
+        list_card(&room[..n]);
     }
 }

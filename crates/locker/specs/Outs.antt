@@ -5,7 +5,7 @@ use Prim.Native.Nat.{ℕ}
 use mathlib.Core.List.{List, [], _∷_}
 use mathlib.Core.Path.{_≡_}
 use mathlib.Core.Bool.{Bool}
-use Rattle.answers.specs.Answers.{Said, accepted, refused, unlessRefused, afterwards, numberSaid, valueOut}
+use Rattle.answers.specs.Answers.{Said, accepted, refused, unlessRefused, afterwards, numberSaid, valueOut, placeOut}
 use Rattle.answers.specs.Versions.{versionRefusal}
 use Rattle.fields.specs.Runs.{over}
 use Rattle.entry.specs.declared.Entry.{Entry}
@@ -17,12 +17,6 @@ use Rattle.scan.specs.Walk.{Step, found, ended, walkIn}
 use Rattle.scan.specs.declared.Effort.{Effort}
 use Rattle.tail.specs.Tail.{durableIn}
 use Rattle.tail.specs.Efforts.{effortIn}
-
--- "(10 also its place)": the place that goes with the refusal, or what stood there
-abbrev pub placeOut : {A : Type 0} → Said A → ℕ → ℕ
-placeOut (accepted a) old = old
-placeOut (refused n []) old = old
-placeOut (refused n (p ∷ values)) old = p
 
 -- an entry as eight numbers, in the order of its struct
 abbrev pub eight : Entry → List ℕ

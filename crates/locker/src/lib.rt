@@ -7,7 +7,7 @@ ghost use mathlib.Core.Path.{_≡_};
 ghost use mathlib.Core.Bool.{true};
 ghost use mathlib.Core.List.{[]};
 ghost use lib.ListN.{length};
-ghost use Rattle.answers.specs.Answers.{afterwards, numberSaid, valueOut};
+ghost use Rattle.answers.specs.Answers.{afterwards, numberSaid, valueOut, placeOut};
 ghost use Rattle.fields.specs.Runs.{over};
 ghost use Rattle.checksum.specs.Catalogue.{crc16, crcFrom};
 ghost use Rattle.header.specs.Header.{readOf as headerRead, writeOf, headerOf};
@@ -16,6 +16,7 @@ ghost use Rattle.append.specs.Bytes.{item};
 ghost use Rattle.append.specs.Append.{dataKind};
 ghost use Rattle.scan.specs.Parts.{partOf, partStart};
 ghost use Rattle.tail.specs.Tail.{usedOf};
+ghost use Rattle.counts.specs.Counts.{countsIn};
 ghost use Rattle.replay.specs.Limits.{dataLimits, tombstoneLimits};
 ghost use Rattle.replay.specs.Start.{startOf};
 ghost use Rattle.locker.specs.Outs.{startOut, startFound, eight, entryOut, AppendOut, WalkOut, two, EndOut};
@@ -261,6 +262,25 @@ pub extern "C" fn locker_durable_end(
             answers::number(Refusal::UnknownType)
         }
     }
+}
+
+// The entries of each type in each namespace, where the answer is 0: `grid[kind][ns]`.
+#[no_mangle]
+pub extern "C" fn locker_count_entries(
+    region: &[u8],
+    version: u64,
+    ordinal: u64,
+    grid: &mut [[u32; 64]; 3],
+    place: &mut u64,
+) -> u32
+    ensures { λ r. ⌜ (r ≡ numberSaid (countsIn version ordinal (now (region .entry)))) × (now (grid .exit) ≡ valueOut (countsIn version ordinal (now (region .entry))) (now (grid .entry))) × (now (place .exit) ≡ placeOut (countsIn version ordinal (now (region .entry))) (now (place .entry))) ⌝ }
+{
+    let mut answer = 0;
+    let counted = counts::count_entries(region, version, ordinal, &mut answer, place);
+    if answer == 0 {
+        *grid = counted;
+    }
+    answer
 }
 
 // The replay limits of a data entry: 0 where it is accepted.

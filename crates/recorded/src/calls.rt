@@ -13,6 +13,9 @@ const LONGEST_RUN: usize = 70000;
 // As many ordinals as the longest run holds.
 const MOST_ORDINALS: usize = 8750;
 
+// What a grid of 3 by 64 cells takes.
+const GRID_BYTES: usize = 768;
+
 type Room = [u8; LONGEST_RUN];
 
 pub struct Replayed {
@@ -24,7 +27,7 @@ pub struct Replayed {
 pub fn numbers_length(operation: u64) -> usize {
     match operation {
         16 | 21 => 8,
-        3 | 13 | 14 | 15 | 20 => 16,
+        3 | 13 | 14 | 15 | 20 | 22 => 16,
         9 | 12 | 19 => 24,
         4 | 6 | 7 => 32,
         5 => 40,
@@ -36,7 +39,7 @@ pub fn numbers_length(operation: u64) -> usize {
 fn runs(operation: u64) -> usize {
     match operation {
         1 | 2 | 3 | 4 | 7 | 8 | 9 | 21 => 1,
-        6 => 2,
+        6 | 22 => 2,
         5 => 3,
         _ => 0,
     }
@@ -113,6 +116,37 @@ fn write(operation: u64, n: &[u8], region: &mut [u8], key: &[u8], value: &[u8]) 
     }
 }
 
+fn wide(cell: u32) -> u64 {
+    cell as u64
+}
+
+// The cells of a grid over a run that is lent for one: row by row, four bytes for each.
+fn put_grid(grid: [[u32; 64]; 3], run: &mut [u8]) {
+    if run.len() != GRID_BYTES {
+        return;
+    }
+    let mut i: usize = 0;
+    while i < 192 {
+        fields::put32(run, i * 4, wide(grid[i / 64][i % 64]));
+        i += 1;
+    }
+}
+
+// The grid is put there whatever the answer: with a refusal every cell has to be 0.
+fn count_entries(n: &[u8], lent: &mut [u8], region: &[u8]) -> Said {
+    let mut answer = 0u32;
+    let mut place = 0u64;
+    let grid = counts::count_entries(
+        region,
+        cursor::listed(n, 0),
+        cursor::listed(n, 1),
+        &mut answer,
+        &mut place,
+    );
+    put_grid(grid, lent);
+    said::counted(answer, place)
+}
+
 // The others. Those that look at marks have a version and an ordinal first.
 fn ask(operation: u64, n: &[u8], region: &[u8]) -> Said {
     let version = cursor::listed(n, 0);
@@ -153,6 +187,7 @@ fn call(
     }
     match operation {
         3 | 5 | 6 => write(operation, n, &mut room[0..length], key, value),
+        22 => count_entries(n, &mut room[0..length], key),
         19 | 20 => limits(operation, n),
         _ => ask(operation, n, &room[0..length]),
     }
@@ -176,13 +211,17 @@ fn read_changes(file: &[u8], changes: Cursor, room: &mut Room, length: usize) ->
     cursor::read_pieces_in(file, changes, room, length)
 }
 
-// The run of a start file's call has 8 bytes for each ordinal.
-fn whole_ordinals(operation: u64, length: usize, end: Cursor) -> Cursor {
+// The run of a start file's call has 8 bytes for each ordinal, and the first one of a count's call
+// is a grid.
+fn whole_run(operation: u64, length: usize, end: Cursor) -> Cursor {
     if end.fault != cursor::NO_FAULT {
         return end;
     }
     if operation == 21 && length % 8 != 0 {
         return cursor::standing(end.at, cursor::HALF_ORDINAL);
+    }
+    if operation == 22 && length != GRID_BYTES {
+        return cursor::standing(end.at, cursor::NO_GRID);
     }
     end
 }
@@ -221,7 +260,7 @@ pub fn replay(file: &[u8], numbers: Cursor, record: Record) -> Replayed {
     let recorded = judge::read_answer(file, answer);
     let region_length = length(0 < count, file, first);
     let past = read_changes(file, recorded.next, &mut expected, region_length);
-    let end = whole_ordinals(operation, region_length, past);
+    let end = whole_run(operation, region_length, past);
     if end.fault != cursor::NO_FAULT {
         return Replayed {
             next: end,

@@ -28,6 +28,8 @@ pub const NO_END_MARK: u64 = 12;
 
 pub const BYTES_AFTER_END: u64 = 13;
 
+pub const NO_GRID: u64 = 14;
+
 pub struct Cursor {
     pub at: usize,
     pub fault: u64,

@@ -42,8 +42,9 @@ pub fn write_name(operation: u64) {
         state-check     \
         replay-data     \
         replay-tombstone\
-        start-file      ";
-    if operation < 22 {
+        start-file      \
+        count-entries   ";
+    if operation < 23 {
         write(cursor::part(names, operation as usize * 16, 16));
     }
 }

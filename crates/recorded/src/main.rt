@@ -14,25 +14,25 @@ use libc::STDIN_FILENO;
 use tracker::Tracker;
 
 // The recorded file has to stay below this.
-const LARGEST_FILE: usize = 320000;
+const LARGEST_FILE: usize = 360000;
 
 // The bytes of LOCKREC1, the first lowest.
 const SIGNATURE: u64 = 0x3143_4552_4B43_4F4C;
 
-const LAST_OPERATION: u64 = 21;
+const LAST_OPERATION: u64 = 22;
 
 // How many records of each operation were replayed, and behind them how many agreed. Those of all
 // operations stand where an operation 0 would.
-type Tally = [u64; 44];
+type Tally = [u64; 46];
 
 fn counted(before: Tally, operation: u64, agreed: bool) -> Tally {
     let mut tally = before;
     let i = operation as usize;
-    if 22 <= i {
+    if 23 <= i {
         return tally;
     }
     tally[i] = std::num::wrapping_add_u64(tally[i], 1);
-    tally[i + 22] = std::num::wrapping_add_u64(tally[i + 22], agreed as u64);
+    tally[i + 23] = std::num::wrapping_add_u64(tally[i + 23], agreed as u64);
     tally
 }
 
@@ -102,7 +102,7 @@ fn replay_record(file: &[u8], index: usize, before: Progress) -> Progress {
 }
 
 fn replay_records(file: &[u8], count: usize, start: Cursor) -> Progress {
-    let mut progress = reached(start, tracker::fresh(), [0; 44]);
+    let mut progress = reached(start, tracker::fresh(), [0; 46]);
     let mut index = 0;
     while index < count {
         progress = replay_record(file, index, progress);
@@ -126,17 +126,17 @@ fn write_line(operation: u64, replayed: u64, agreed: u64) {
 
 fn write_table(tally: Tally) {
     let mut i: usize = 1;
-    while i < 22 {
-        write_line(i as u64, tally[i], tally[i + 22]);
+    while i < 23 {
+        write_line(i as u64, tally[i], tally[i + 23]);
         i += 1;
     }
-    write_line(0, tally[0], tally[22]);
+    write_line(0, tally[0], tally[23]);
 }
 
 // The last line where the file isn't what it should be. Records are counted from 0.
 fn write_malformed(record: u64, c: Cursor) {
     let faults = b"nothing                              \
-        the file has 320,000 bytes or more   \
+        the file has 360,000 bytes or more   \
         the file doesn't begin with LOCKREC1 \
         the file ends within this part       \
         the end mark comes before all records\
@@ -148,12 +148,13 @@ fn write_malformed(record: u64, c: Cursor) {
         a shard is out of range              \
         more than 32 deltas wait on a shard  \
         the end mark is missing              \
-        bytes follow the end mark            ";
+        bytes follow the end mark            \
+        a grid hasn't 768 bytes              ";
     judge::number(b"malformed: record ", record);
     judge::number(b", byte ", c.at as u64);
     judge::write(b": ");
     let fault = c.fault;
-    if fault < 14 {
+    if fault < 15 {
         judge::write(cursor::part(faults, fault as usize * 37, 37));
     }
     judge::write(b"\n");
@@ -209,7 +210,7 @@ fn replay_file(file: &[u8]) {
         write_malformed(tally[0], end);
         return;
     }
-    write_verdict(tally[0], tally[22]);
+    write_verdict(tally[0], tally[23]);
 }
 
 // A file that fills the room may go on, so it isn't replayed. One that can't be read to its end is

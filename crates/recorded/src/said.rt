@@ -126,6 +126,16 @@ pub fn durable_end(answer: CountedEnd) -> Said {
     }
 }
 
+// A count's number, and with 10 its place. The grid goes where one is lent.
+pub fn counted(answer: u32, place: u64) -> Said {
+    let mut said = accepted();
+    said.number = answer as u64;
+    if answer == answers::number(Refusal::UnknownType) {
+        return with(said, place);
+    }
+    said
+}
+
 pub fn start(answer: StartAnswer) -> Said {
     match answer {
         StartAnswer::File { place } => with(one(1), place as u64),

@@ -1,4 +1,4 @@
--- The listing is one walk and the listing from the end of what it found; and its entries end within the region.
+-- The listing is one walk and the listing from the end of what it found; its entries end within the region, and there are no more of them than lines.
 -- Assumes nothing.
 use Prim.Native.Nat.{ℕ, zero, suc, _+_, _-_, _/_, _≤_}
 use mathlib.Core.Path.{_≡_, refl, sym, ap, _∙_}
@@ -65,3 +65,18 @@ module _ (mark : ℕ → ℕ) (s : List ℕ) where
   pub list-ends : (bound offset none : ℕ) → none ≤ length s → lastEnd none (list mark s bound offset .entries) ≤ length s
   unfolding list
   list-ends bound offset = most-ends bound _ offset
+
+  -- there are no more entries than walks
+  most-few : (bound n offset : ℕ) → length (listMost mark s n bound offset .entries) ≤ n
+  unfolding listMost
+  most-few bound zero offset = omega arith
+  most-few bound (suc n) offset = go (walk mark s bound offset) (λ e. most-few bound n (e .end))
+    where
+      go : (x : Said Step) → ((e : Entry) → length (listMost mark s n bound (e .end) .entries) ≤ n) → length (grow x (λ (e : Entry). listMost mark s n bound (e .end)) .entries) ≤ suc n
+      go (accepted (found e)) ih = omega (arith, ih e)
+      go (accepted ended) ih = omega arith
+      go (refused k v) ih = omega arith
+
+  pub list-few : (bound offset : ℕ) → length (list mark s bound offset .entries) ≤ (bound + 15 - aligned offset) / 16
+  unfolding list
+  list-few bound offset = most-few bound _ offset

@@ -62,6 +62,13 @@ gave false true false true x y p h = (refl, cc)
 gave false true false false x y p h = absurd (let z : _≡_ {A = ℕ} 0 1 = cc in omega arith)
 gave false false c d x y p h = absurd (let z : _≡_ {A = ℕ} 0 1 = cc in omega arith)
 
+refuses : (a b c d : Bool) (x : Entry) (p : ℕ) {n : ℕ} {values : List ℕ} → tested a b c d x p ≡ done (refused n values) → n ≡ 10
+refuses true b c d x p h = absurd (let z : _≡_ {A = ℕ} 0 1 = cc in omega arith)
+refuses false true true d x p h = cc
+refuses false true false true x p h = absurd (let z : _≡_ {A = ℕ} 0 1 = cc in omega arith)
+refuses false true false false x p h = absurd (let z : _≡_ {A = ℕ} 0 1 = cc in omega arith)
+refuses false false c d x p h = absurd (let z : _≡_ {A = ℕ} 0 1 = cc in omega arith)
+
 module _ (mark : ℕ → ℕ) (s : List ℕ) (p : ℕ) where
   -- a line that neither verifies nor holds type 3 under the right mark is passed over
   pub trial-passed : p + 8 ≤ length s → (verifies mark s p ≡ true → ⊥) → (wordMark (field 4 s p) ≡ mark p → wordKind (field 4 s p) ≡ 3 → ⊥) → trial mark s p ≡ next
@@ -77,3 +84,8 @@ module _ (mark : ℕ → ℕ) (s : List ℕ) (p : ℕ) where
       let g = gave (ltb (length s) (p + 8)) (eqb (wordMark (field 4 s p)) (mark p)) (eqb (wordKind (field 4 s p)) 3) (verifies mark s p) (entryAt s p) e p h in
       let v = verified mark s p (g .0) in
       record { is = g .1; room = v .room; marked = v .marked; known = v .known; within = v .within; agreed = v .agreed }
+
+  -- a line is refused with 10 alone
+  pub trial-refused : {n : ℕ} {values : List ℕ} → trial mark s p ≡ done (refused n values) → n ≡ 10
+  unfolding trial
+  trial-refused h = refuses (ltb (length s) (p + 8)) (eqb (wordMark (field 4 s p)) (mark p)) (eqb (wordKind (field 4 s p)) 3) (verifies mark s p) (entryAt s p) p h

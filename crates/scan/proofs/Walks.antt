@@ -1,6 +1,6 @@
 -- The walk, line by line, over any mark rule.
 -- Assumes nothing.
-use Prim.Native.Nat.{ℕ, zero, suc, _+_, _-_, _*_, _/_, _<_, _≤_}
+use Prim.Native.Nat.{ℕ, zero, suc, _+_, _-_, _*_, _/_, _^_, _<_, _≤_}
 use mathlib.Core.Path.{_≡_, refl, sym, ap, _∙_}
 use mathlib.Core.List.{List}
 use mathlib.Core.Bool.{Bool, true, false}
@@ -10,10 +10,12 @@ use lib.ListN.{length}
 use lib.Dec.{leb}
 use Rattle.answers.specs.Answers.{Said, accepted}
 use Rattle.answers.specs.Limits.{largestRegion}
-use Rattle.fields.specs.Numbers.{aligned}
+use Rattle.fields.specs.Numbers.{field, aligned}
 use Rattle.fields.proofs.Lines.{aligned-le}
+use Rattle.entry.specs.Words.{wordNamespace, wordKind}
 use Rattle.entry.specs.declared.Entry.{Entry}
-use Rattle.entry.proofs.Standing.{entry-offset, entry-long}
+use Rattle.entry.proofs.Standing.{entry-offset, entry-kind, entry-namespace, entry-long}
+use Rattle.entry.proofs.Packing.{namespace-lt}
 use Rattle.scan.specs.Walk.{Step, found, ended, Trial, done, next, orElse, pickStep, trial, walkLines, walkFrom, walk, walkOf}
 use Rattle.scan.proofs.Trials.{found-verified}
 
@@ -84,3 +86,16 @@ module _ (mark : ℕ → ℕ) (s : List ℕ) where
   walk-found bound offset {e} h =
       let i = lines-found ((bound + 15 - aligned offset) / 16) (aligned offset) (sym (walk-aligned bound offset) ∙ h) in
       record { low = i .low; high = omega arith; tried = i .tried; long = i .long; fits = i .fits }
+
+  -- its type is 0, 1 or 2, and its namespace has six bits
+  pub stands-kind : (from to : ℕ) {e : Entry} → Stands mark s from to e → e .kind < 3
+  stands-kind from to {e} z =
+      let v = found-verified mark s (e .offset) (z .tried) in
+      let k : wordKind (field 4 s (e .offset)) ≡ e .kind = sym (entry-kind s (e .offset)) ∙ ap (λ (x : Entry). x .kind) (v .is) in
+      rw k at (v .known)
+
+  pub stands-namespace : (from to : ℕ) {e : Entry} → Stands mark s from to e → e .ns < 2 ^ 6
+  stands-namespace from to {e} z =
+      let v = found-verified mark s (e .offset) (z .tried) in
+      let n : wordNamespace (field 4 s (e .offset)) ≡ e .ns = sym (entry-namespace s (e .offset)) ∙ ap (λ (x : Entry). x .ns) (v .is) in
+      rw n at (namespace-lt (field 4 s (e .offset)))

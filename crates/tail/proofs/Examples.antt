@@ -19,16 +19,16 @@ use Rattle.tail.specs.Tail.{durable, durableOf}
 use Rattle.tail.specs.Efforts.{effortOf, effortIn}
 
 -- insert `9`, 13 bytes at 0; tombstone, 10 bytes at 32; and what stands at 16 between them
-abbrev around : List ℕ → List ℕ
+abbrev pub around : List ℕ → List ℕ
 around middle =
     (0xC0 ∷ 0x17 ∷ 0x5A ∷ 0x01 ∷ 0x02 ∷ 0x00 ∷ 0x01 ∷ 0x00 ∷ 0x39 ∷ 0x41 ∷ 0x37 ∷ 0xBF ∷ 0xDC ∷ 0xFF ∷ 0xFF ∷ 0xFF ∷ [])
     ++ (middle ++ (0xC2 ∷ 0x17 ∷ 0x5A ∷ 0x81 ∷ 0x02 ∷ 0x00 ∷ 0x41 ∷ 0x37 ∷ 0xC0 ∷ 0x70 ∷ 0xFF ∷ 0xFF ∷ 0xFF ∷ 0xFF ∷ 0xFF ∷ 0xFF ∷ []))
 
 -- update `10`, 14 bytes, its word's last byte, its value's length and its value's first byte as they are given
-abbrev second : ℕ → ℕ → ℕ → List ℕ
+abbrev pub second : ℕ → ℕ → ℕ → List ℕ
 second top vlen first = 0xC1 ∷ 0x17 ∷ 0x5A ∷ top ∷ 0x02 ∷ 0x00 ∷ vlen ∷ 0x00 ∷ first ∷ 0x30 ∷ 0x41 ∷ 0x37 ∷ 0x0D ∷ 0xA9 ∷ 0xFF ∷ 0xFF ∷ []
 
-abbrev sample : List ℕ
+abbrev pub sample : List ℕ
 sample = around (second 0x41 0x02 0x31)
 
 -- three entries, of 13, 14 and 10 bytes, each less 2. Up to a smaller bound fewer lines are tried; over N the call is refused before any is, and so

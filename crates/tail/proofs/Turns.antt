@@ -28,11 +28,15 @@ module _ (mark : ℕ → ℕ) (s : List ℕ) (bound : ℕ) (small : length s ≤
   pub turn-found : {e : Entry} → walked ≡ Found e → Stands mark s (aligned from) (bound + 15) e
   turn-found q = walk-found mark s bound from (asked ∙ ap said q)
 
+  -- what is left to list is what this answer tells, and what is left behind it
+  pub turn-list : (x : Walked) → walked ≡ x → grow (said x) (λ (e : Entry). list mark s bound (e .end)) ≡ list mark s bound from
+  turn-list x q =
+      ap (λ (y : Said Step). grow y (λ (e : Entry). list mark s bound (e .end))) (ap said (sym q) ∙ sym asked)
+      ∙ sym (list-step mark s bound from)
+
   -- what the entries from here on give, they give by this answer and by those behind it
   pub turn-rest : (x : Walked) → walked ≡ x → durable from (grow (said x) (λ (e : Entry). list mark s bound (e .end))) ≡ durable from (list mark s bound from)
-  turn-rest x q =
-      ap (λ (y : Said Step). durable from (grow y (λ (e : Entry). list mark s bound (e .end)))) (ap said (sym q) ∙ sym asked)
-      ∙ ap (durable from) (sym (list-step mark s bound from))
+  turn-rest x q = ap (durable from) (turn-list x q)
 
   -- and so is what they take
   pub turn-effort : (x : Walked) → walked ≡ x → plus (countedWalk mark s bound from .effort) (later (said x) (λ (e : Entry). listEffort mark s bound (e .end))) ≡ listEffort mark s bound from

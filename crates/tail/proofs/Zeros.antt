@@ -11,7 +11,7 @@ use lib.Dec.{ltb, eqb}
 use lib.ListN.{length, getD, List·getD-eq-default}
 use Rattle.answers.specs.Answers.{accepted, firstOf, pickNumber}
 use Rattle.answers.specs.Limits.{largestRegion}
-use Rattle.answers.proofs.Orders.{accepted-unrefused}
+use Rattle.answers.proofs.Orders.{first-passed, accepted-unrefused}
 use Rattle.fields.proofs.Lines.{aligned-le, aligned-least}
 use Rattle.scan.specs.Listing.{list}
 use Rattle.tail.specs.Tail.{nonzeroTo, usedBound, usedOf, durable, durableOf}
@@ -54,13 +54,17 @@ module _ (s : List ℕ) where
   unfolding usedBound
   used-length = omega arith
 
-  -- so a bound that was answered can be walked to
-  pub used-within : {bound : ℕ} → usedOf s ≡ accepted bound → bound ≤ length s
+  -- a bound that was answered is the used bound of a region that isn't too large
+  pub used-told : {bound : ℕ} → usedOf s ≡ accepted bound → (length s ≤ largestRegion) × (usedBound s ≡ bound)
   unfolding usedOf
-  used-within {bound} e =
-      let q : accepted (usedBound s) ≡ accepted bound = accepted-unrefused (firstOf ((ltb largestRegion (length s), 3) ∷ [])) (accepted (usedBound s)) e .1 in
-      let b : usedBound s ≡ bound = cc in
-      omega (arith, used-length)
+  used-told {bound} e =
+      let u = accepted-unrefused (firstOf ((ltb largestRegion (length s), 3) ∷ [])) (accepted (usedBound s)) e in
+      let q : accepted (usedBound s) ≡ accepted bound = u .1 in
+      (ltb-false _ _ (first-passed _ 2 0 (u .0) .0), cc)
+
+  -- so it can be walked to
+  pub used-within : {bound : ℕ} → usedOf s ≡ accepted bound → bound ≤ length s
+  used-within e = let t = used-told e in omega (arith, used-length)
 
   pub used-least : (line : ℕ) → line % 16 ≡ 0 → ((i : ℕ) → line ≤ i → getD s i 0 ≡ 0) → usedBound s ≤ line
   unfolding usedBound

@@ -35,10 +35,10 @@ abbrev pub saidUsed : UsedBound → Said ℕ
 saidUsed (bound-said.Bound n) = accepted n
 saidUsed (bound-said.Refused r) = refused (numberOf r) []
 
--- the number, unless the listing was ended by a refusal
-abbrev pub unlessStopped : Said Step → ℕ → Said ℕ
-unlessStopped (accepted step) n = accepted n
-unlessStopped (refused n values) end = refused n values
+-- what the listing gives, unless it was ended by a refusal
+abbrev pub unlessStopped : {A : Type 0} → Said Step → A → Said A
+unlessStopped (accepted step) given = accepted given
+unlessStopped (refused n values) given = refused n values
 
 -- "Durable end: walk from 0; the last verified entry's end rounded up, or 0." Where the listing begins with its first entry, `none` is 0
 unfoldable pub durable : ℕ → Listed → Said ℕ

@@ -7,6 +7,7 @@
 // and the mark 0 at offset 173,966,336, which the proved table has.
 mod appends;
 mod efforts;
+mod grids;
 mod headers;
 mod judge;
 mod reads;
@@ -23,4 +24,5 @@ fn main() {
     thirteen::trials();
     versions::trials();
     efforts::trials();
+    grids::trials();
 }

@@ -1,6 +1,7 @@
 // One entry of 13 bytes in a region of 13 bytes: the used bound is no multiple of 16, the entry ends
 // flush with the region, and the durable end lies past both. An append finds no place here.
 use crate::appends;
+use crate::grids;
 use crate::headers;
 use crate::judge;
 use crate::judge::Said;
@@ -25,6 +26,7 @@ fn tails(region: &[u8]) {
     walks::durable(region, 1, Said::Number(16));
     walks::durable(region, 0, Said::Number(0));
     walks::durable(region, 14, Said::Refused(4));
+    grids::counted(region, grids::only(1, 1, 0, 0));
 }
 
 fn walked(region: &[u8]) {

@@ -4,11 +4,11 @@ use Prim.Native.Nat.{ℕ}
 use mathlib.Core.Path.{_≡_, refl, sym, ap, _∙_}
 use mathlib.Core.List.{List}
 use borrow.Author.Needs.{needs}
-use Rattle.answers.specs.Answers.{Said, numberSaid, valueOut}
+use Rattle.answers.specs.Answers.{Said, numberSaid, valueOut, placeOut}
 use Rattle.tail.specs.Tail.{saidDurable}
 use Rattle.tail.specs.Efforts.{effortIn}
 use Rattle.tail.specs.declared.DurableEnd.{DurableEnd}
-use Rattle.locker.specs.Outs.{placeOut, two, effortOut, EndOut}
+use Rattle.locker.specs.Outs.{two, effortOut, EndOut}
 use Rattle.locker.proofs.locker_durable_end.Statement.{statement}
 use Rattle.locker.proofs.locker_durable_end.Tie as tie
 

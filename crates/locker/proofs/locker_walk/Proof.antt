@@ -2,9 +2,9 @@
 -- Assumes nothing.
 use mathlib.Core.Path.{sym, ap, _∙_}
 use borrow.Author.Needs.{needs}
-use Rattle.answers.specs.Answers.{Said, numberSaid}
+use Rattle.answers.specs.Answers.{Said, numberSaid, placeOut}
 use Rattle.scan.specs.Walk.{Step, said}
-use Rattle.locker.specs.Outs.{walkedOut, foundOut, placeOut}
+use Rattle.locker.specs.Outs.{walkedOut, foundOut}
 use Rattle.locker.proofs.locker_walk.Statement.{statement}
 use Rattle.locker.proofs.locker_walk.Tie as tie
 

@@ -9,7 +9,7 @@ abbrev Inv-loop : tie.InvT-loop
 Inv-loop tally i₀ i = Unit {0}
 
 abbrev μ-loop : tie.MeasureT-loop
-μ-loop tally i₀ i = 22 - i
+μ-loop tally i₀ i = 23 - i
 
 pub write-table-spec : {M : Type 1} → statement M
 write-table-spec = tie.close (tie.spec Inv-loop μ-loop (λ c. search needs) (λ c. search needs) (λ c. search needs) (λ c. search needs) (λ c. search needs) (λ c. search needs) (λ c κs. search needs) (λ c. search needs) (λ c. search needs) (λ c. search needs) (λ c. search needs) (λ c. search needs) (λ c κs. search needs) (λ c. search needs))

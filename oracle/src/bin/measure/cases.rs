@@ -205,7 +205,8 @@ impl Bench {
     pub fn run(&mut self) -> Result<(), String> {
         self.file.set_length(self.region.len() as u64);
         for entry in &ENTRIES {
-            self.named(&format!("durable end, entries of {}", bytes(entry.length)), |bench| bench.full(entry))?;
+            let name = format!("durable end and counts, entries of {}", bytes(entry.length));
+            self.named(&name, |bench| bench.full(entry))?;
         }
         self.named("durable end, every mark wrong", Self::wrong_marks)?;
         self.named("used bound of zeros", Self::zeros)?;
@@ -263,7 +264,25 @@ impl Bench {
         })
     }
 
-    /// A region full of entries of one make-up, no two neighbours the same.
+    /// The counts, which all sides have to give as `right`. The original finds the used bound, and lists up to it.
+    fn counts(&mut self, right: [[u32; 64]; 3]) -> Result<[f64; 3], String> {
+        let (region, file) = (&self.region[..self.file.length_now() as usize], &mut self.file);
+        in_turns(self.sizes.rounds, |side| {
+            let (seconds, counts) = timed(|| match side {
+                Side::Library => library::count_entries(region),
+                _ => {
+                    let bound = file.used_bound(region.len() as u64).map_err(told)?;
+                    file.count_listed(bound).map_err(told)
+                }
+            })?;
+            if counts != right {
+                return Err(format!("{side} counts {} instead of {}", brief(&counts), brief(&right)));
+            }
+            Ok((seconds, counts))
+        })
+    }
+
+    /// A region full of entries of one make-up, no two neighbours the same, in the namespaces from 0 to 63 in turn.
     fn full(&mut self, entry: &MakeUp) -> Result<(), String> {
         self.region.fill(0);
         let count = self.region.len() as u64 / entry.aligned();
@@ -283,6 +302,14 @@ impl Bench {
         let speed = seconds.map(|s| used as f64 / s / 1e6);
         let label = format!("entries of {}", bytes(entry.length));
         self.row(Panel::Scan, &format!("durable end, {label}"), &label, speed);
+        let mut counts = [[0; 64]; 3];
+        for i in 0..count {
+            counts[if entry.value.is_some() { 0 } else { 2 }][(i % 64) as usize] += 1;
+        }
+        let seconds = self.counts(counts)?;
+        let speed = seconds.map(|s| used as f64 / s / 1e6);
+        let label = format!("counts, {}", bytes(entry.length));
+        self.row(Panel::Scan, &format!("count entries, entries of {}", bytes(entry.length)), &label, speed);
         Ok(())
     }
 

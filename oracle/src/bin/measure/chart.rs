@@ -50,7 +50,7 @@ fn ink(colour: &str) -> String {
 
 fn heading(panel: Panel) -> (&'static str, &'static str) {
     match panel {
-        Panel::Scan => ("Durable end and used bound of a whole region", "MB/s, longer is faster"),
+        Panel::Scan => ("Durable end, counts and used bound of a whole region", "MB/s, longer is faster"),
         Panel::Append => ("Appends", "nanoseconds each, shorter is faster"),
         Panel::Tracker => ("Tracker", "nanoseconds a call or pair of calls, shorter is faster"),
         Panel::Hostile => ("Durable end of the worst card of a length", "seconds, shorter is faster"),

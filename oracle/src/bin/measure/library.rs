@@ -58,6 +58,14 @@ pub fn durable_end(region: &[u8], bound: u64) -> Result<(u64, RawEffort), String
     answered(number, (end, effort))
 }
 
+/// The entries of each type in each namespace, up to the used bound.
+pub fn count_entries(region: &[u8]) -> Result<[[u32; 64]; 3], String> {
+    let (mut grid, mut place) = ([[0; 64]; 3], 0);
+    let (lent, length) = (region.as_ptr(), region.len());
+    let number = unsafe { sys::locker_count_entries(lent, length, VERSION, ORDINAL, &mut grid, &mut place) };
+    answered(number, grid)
+}
+
 pub struct Tracker(Box<Cells>);
 
 impl Tracker {

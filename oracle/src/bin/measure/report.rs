@@ -163,6 +163,12 @@ impl Run {
              bytes, so its scans have the system's copying in them, which alone runs at {} MB/s.",
             figure(self.system.reading)
         ));
+        notes.push(
+            "Count entries finds the used bound, lists the entries up to it and counts each by its type and namespace, those \
+             from 0 to 63 in turn here. The original has no such call: its own used bound and its own listing are counted \
+             around, without a copy of any key or value."
+                .to_string(),
+        );
         let writing: Vec<String> = self
             .system
             .writing

@@ -20,6 +20,23 @@ impl File {
         })
     }
 
+    /// `read_next_entry_ref` from the region's start on to `bound`, the read buffer kept, each entry counted by its type and
+    /// namespace.
+    pub fn count_listed(&mut self, bound: u64) -> Answer<[[u32; 64]; 3]> {
+        self.data.file_offset.store(bound, Ordering::Relaxed);
+        let mut kept = Buffer::default();
+        caught(|| {
+            let (mut counts, mut offset) = ([[0; 64]; 3], 0);
+            while let Some((kv, _, end)) =
+                self.data.read_next_entry_ref(offset, &mut kept.bytes, &mut kept.file_offset)?
+            {
+                counts[kv.entry_type as usize][kv.ns as usize] += 1;
+                offset = end;
+            }
+            Ok(counts)
+        })
+    }
+
     /// `write_all_at` of the same bytes, `count` times from the region's start on: the system's part of an append.
     pub fn write_again(&self, bytes: &[u8], count: u64) -> Answer<()> {
         caught(|| {
