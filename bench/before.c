@@ -12,7 +12,7 @@
 
 #include "locker_log.h"
 
-enum { REGION = 268435456, HOSTILE = 65536, LONGEST_RUN = 67108864, ROOM_FOR_APPENDS = 67108864 };
+enum { REGION = 268435456, HOSTILE = 65536, LARGER_HOSTILE = 1048576, LONGEST_RUN = 67108864, ROOM_FOR_APPENDS = 67108864 };
 enum { MOST_SUMS = 5000000, MOST_APPENDS = 200000, STARTS = 20000, TRACKS = 20000 };
 
 // What is called of a build. Calls go through these pointers, so the compiler can neither merge nor skip them. Those that
@@ -125,6 +125,9 @@ __attribute__((noinline)) static uint64_t deeper(size_t bytes, measured_fn *meas
 
 enum { STACK_STEP = 16, STACK_PLACES = 8 };
 
+// A build that takes more seconds than this for a round has only one.
+#define SLOW 3.0
+
 // What takes turns: two builds at one call, or one build at two.
 struct turn {
     const struct side *side;
@@ -136,6 +139,8 @@ static struct best in_turns_of(const struct turn turns[SIDES], const void *what)
     struct best best = {{1e9, 1e9}, {0, 0}};
     for (int round = 0; round < rounds; round++)
         for (int i = 0; i < SIDES; i++) {
+            if (round > 0 && best.seconds[i] > SLOW)
+                continue;
             const size_t passed = STACK_STEP * (size_t)(1 + round % STACK_PLACES);
             double began = now();
             best.answer[i] = deeper(passed, turns[i].measured, turns[i].side, what);
@@ -316,7 +321,7 @@ struct line {
     struct best best;
 };
 
-static struct line beside[7];
+static struct line beside[9];
 static size_t lines;
 
 // Count entries of both builds, where the earlier has it, and of today's beside its durable end.
@@ -327,6 +332,8 @@ static void measure_counts(const char *name, size_t size, double bytes, const st
         report(name, size, bytes, (double)log->count, in_turns(counted, log));
     beside[lines++] = (struct line){name, size, bytes, (double)log->count, in_turns_of(turns, log)};
 }
+
+enum { DAMAGED = 4096 };
 
 static void measure_entries(struct log log, size_t length)
 {
@@ -345,6 +352,11 @@ static void measure_entries(struct log log, size_t length)
     measure_counts("count", length, (double)log.size * (double)log.count, &log);
     if (log.vlen)
         report("read", length, (double)log.size * (double)log.count, (double)log.count, in_turns(read_all, &log));
+    if (length == DAMAGED) {
+        // One byte of the middle entry's value: it is summed in vain, and every line within it is tried.
+        log.region[log.count / 2 * log.size + 8 + log.vlen / 2] ^= 1;
+        report("end, damaged", length, (double)log.size * (double)log.count, (double)log.count, in_turns(ended, &log));
+    }
 }
 
 // Where the appends ended, with a sum over all bytes that they wrote: one checksum serves for both sides.
@@ -414,6 +426,54 @@ static void measure_hostile(struct log log)
         bytes += HOSTILE - p - 2;
     }
     measure_lines("end, hostile", "count, hostile", log, HOSTILE, bytes);
+}
+
+// The product of two registers, modulo the checksum's polynomial.
+static uint16_t times(uint16_t a, uint16_t b)
+{
+    unsigned product = 0;
+    for (int bit = 15; bit >= 0; bit--)
+        product = (product << 1 ^ (product >> 15) * 0x11021) ^ (a >> bit & 1) * b;
+    return (uint16_t)product;
+}
+
+enum { LARGEST_LENGTH = 65535, MOST_SUMMED = 8 + 2 * LARGEST_LENGTH };
+
+// Every mark of a region of LARGER_HOSTILE bytes is right, and each sum covers so many bytes, or where these are
+// MOST_SUMMED as many as there are; no checksum agrees. What the bytes from a place on add to a register, divided by x^8 for
+// each, is kept for every place: the checksum is linear, so no entry has to be summed up on its own, and a line whose
+// checksum agrees gets other bytes behind its lengths. The bytes are those that are checksummed.
+static void measure_larger_hostile(const char *name, const char *counts, struct log log, size_t most)
+{
+    static uint16_t behind[LARGER_HOSTILE + 1], powers[MOST_SUMMED + 1];
+    uint16_t undo = 0x8810;
+    size_t bytes = 0;
+    for (int i = 1; i < 8; i++)
+        undo = times(undo, 0x8810);
+    powers[0] = 1;
+    for (size_t i = 1; i <= MOST_SUMMED; i++)
+        powers[i] = times(powers[i - 1], 1 << 8);
+    fill(log.region, LARGER_HOSTILE);
+    behind[LARGER_HOSTILE] = 0;
+    for (size_t p = LARGER_HOSTILE; p > 0;) {
+        p -= LOCKER_LINE;
+        const size_t room = LARGER_HOSTILE - p - 2, wanted = most == MOST_SUMMED && room < most ? room : most;
+        const size_t klen = most == MOST_SUMMED ? (wanted - 8) / 2 : 0, end = p + wanted;
+        put_number(log.region + p, mark(p), 4);
+        put_number(log.region + p + 4, klen, 2);
+        put_number(log.region + p + 6, wanted - 8 - klen, 2);
+        for (bool agrees = true; agrees;) {
+            for (size_t at = p + LOCKER_LINE; at-- > p;)
+                behind[at] = times(behind[at + 1], undo) ^ (uint16_t)(log.region[at] << 8);
+            if (wanted > room)
+                break;
+            const uint16_t sum = times(behind[p] ^ 0xffff, powers[wanted]) ^ behind[end];
+            agrees = sum == (log.region[end] | log.region[end + 1] << 8);
+            log.region[p + LOCKER_LINE - 1] += agrees;
+        }
+        bytes += wanted > room ? 0 : wanted;
+    }
+    measure_lines(name, counts, log, LARGER_HOSTILE, bytes);
 }
 
 // ---- the start file, of an ascending list, where every build chooses the same, and with a cursor past its last ordinal
@@ -533,6 +593,8 @@ int main(int argc, char **argv)
     }
     measure_no_entry(log);
     measure_hostile(log);
+    measure_larger_hostile("end, hostile", "count, hostile", log, MOST_SUMMED);
+    measure_larger_hostile("end, of 240", "count, of 240", log, 240);
     for (size_t count = 1; count <= LOCKER_MOST_ORDINALS; count *= 8)
         measure_starts(count);
     for (size_t count = 0; count < LOCKER_WAITING; count = 2 * count + 1)

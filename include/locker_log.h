@@ -15,8 +15,9 @@
  * tracker or a region between threads sees to it that one call at a time works on it.
  *
  * The library calls memcpy and memset and nothing else. A call on a tracker works on copies of it: built for Arm it
- * takes up to 16 KiB of stack. Counting entries fills grids of its own first and takes less than 3 KiB, and any other
- * call takes less than 2 KiB.
+ * takes up to 16 KiB of stack. The durable end has 4 KiB for the checksums of a hostile card and takes less than 5 KiB;
+ * counting entries has that too, fills grids of its own first and takes less than 6 KiB. Any other call takes less than
+ * 2 KiB.
  *
  * A region is a data file without its first 4,096 bytes. All places count from the region's first byte.
  *

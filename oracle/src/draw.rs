@@ -1,5 +1,6 @@
 //! Inputs at random: logs, damaged logs, nested entries, entries flush with the region's end, marks without entries,
-//! hostile regions, and traces of the tracker. Most are small, because most that can go wrong does so on a few lines.
+//! hostile regions, long entries, and traces of the tracker. Most are small, because most that can go wrong does so on a
+//! few lines.
 use crate::{
     calls::{up16, Call, Header, Region, Said, Slot, State, Step, GRID_BYTES, HEADER, MAX_REGION},
     rng::Rng,
@@ -13,6 +14,9 @@ pub const FILLING_ORDINAL: u64 = 0xa5_e83f;
 
 /// Versions that no file has: some are cut to 1 or 2 where a byte, or 32 bits, are kept of them.
 pub const NO_VERSIONS: [u64; 7] = [0, 3, 0x101, 0x102, (1 << 32) + 1, (1 << 32) + 2, u64::MAX];
+
+/// One call in so many has long entries: the original sums up to some 20,000,000 bytes for each.
+const LONG_ONCE_IN: u64 = 4096;
 
 /// A call that is drawn for its place in the stream alone has this.
 const PLAIN: Header = Header { version: 1, ordinal: 0 };
@@ -66,6 +70,49 @@ pub fn hostile(header: Header, length: usize, last: [u8; 2]) -> Vec<u8> {
     region
 }
 
+/// A line with its mark and a whole entry's lengths, by how many bytes the entry's sum covers.
+pub struct Claim {
+    pub place: usize,
+    pub covered: usize,
+    pub kind: u32,
+    pub right: bool,
+}
+
+/// The fewest and the most bytes that a sum covers.
+const LEAST_COVERED: usize = 8;
+pub const MOST_COVERED: usize = LONGEST_DATA - 2;
+
+/// So many bytes are as many as a window of sums reaches over, and so many lie between two of its places.
+pub const WINDOW: usize = 262_144;
+pub const WINDOW_STEP: usize = 256;
+
+/// Puts these lines, which ascend, over the region, whatever it holds. The right sums are set from the last line to the
+/// first, so that none that a walk comes to covers bytes that change afterwards; the others are what the region has there.
+pub fn put_claims(header: Header, region: &mut [u8], claims: &[Claim]) {
+    for &Claim { place, covered, kind, .. } in claims {
+        let tombstone = kind == 2 && covered < LONGEST_TOMBSTONE - 1;
+        let (kind, klen, vlen) = if tombstone {
+            (2, covered - 6, 0)
+        } else {
+            let klen = (covered - 8) / 2;
+            (if kind == 2 { 1 } else { kind }, klen, covered - 8 - klen)
+        };
+        let word = header.mark(place as u64) | (place as u32 / 16 % 64) << 24 | kind << 30;
+        put(region, place, &word.to_le_bytes());
+        put(region, place + 4, &(klen as u16).to_le_bytes());
+        if !tombstone {
+            put(region, place + 6, &(vlen as u16).to_le_bytes());
+        }
+    }
+    for &Claim { place, covered, .. } in claims.iter().rev().filter(|claim| claim.right) {
+        let end = place + covered;
+        if end <= region.len() {
+            let sum = crc16_ibm3740_fast::hash(&region[place..end]) as u16;
+            put(region, end, &sum.to_le_bytes());
+        }
+    }
+}
+
 /// An entry whose last bytes are zeros, so many of them and both of its checksum: the first two bytes of its value, or of a
 /// tombstone's key, bring the sum to 0, and zeros leave it there.
 pub fn ending_in_zeros(header: Header, p: usize, kind: u32, ns: u32, zeros: usize) -> Vec<u8> {
@@ -93,10 +140,12 @@ pub fn fresh_state() -> State {
 
 pub struct Draw {
     pub rng: Rng,
-    /// Versions and ordinals have a stream of their own, and so have hostile regions and the counts of entries.
+    /// Versions and ordinals have a stream of their own, and so have hostile regions, the counts of entries and the calls
+    /// with long entries.
     versions: Rng,
     efforts: Rng,
     counts: Rng,
+    long: Rng,
     /// What the call is given, and whose marks its region is built with.
     header: Header,
     built: Header,
@@ -114,6 +163,7 @@ impl Draw {
             versions: Rng::new(!seed),
             efforts: Rng::new(seed ^ (1 << 63)),
             counts: Rng::new(seed ^ (1 << 62)),
+            long: Rng::new(seed ^ (1 << 61)),
             header: PLAIN,
             built: PLAIN,
             trace: fresh_state(),
@@ -123,8 +173,12 @@ impl Draw {
         }
     }
 
-    /// One call in sixteen counts entries; the others are a seed's calls in their order.
+    /// Now and then a call with long entries comes in between. Of the others one in sixteen counts entries, and the rest
+    /// are a seed's calls in their order.
     pub fn call(&mut self) -> Call {
+        if self.long.once_in(LONG_ONCE_IN) {
+            return self.long_call();
+        }
         if self.counts.once_in(16) {
             return self.count_entries();
         }
@@ -421,6 +475,81 @@ impl Draw {
                 put(region, line, &bytes);
             }
         }
+    }
+
+    // ---- long entries
+
+    /// A durable end or a count of entries in a region with long entries, of which most don't verify. All that it draws
+    /// comes from its own stream, the version too.
+    fn long_call(&mut self) -> Call {
+        std::mem::swap(&mut self.rng, &mut self.long);
+        let header = Header { version: self.rng.within(1, 2), ordinal: self.rng.next() >> self.rng.below(64) };
+        let bytes = self.long_region(header);
+        let bound = self.bound(bytes.len());
+        let region = Region::Dense(bytes);
+        let call = match self.rng.below(2) {
+            0 => Call::DurableEnd { region, header, bound },
+            _ => Call::CountEntries { region, header, lent: self.rng.bytes(GRID_BYTES) },
+        };
+        std::mem::swap(&mut self.rng, &mut self.long);
+        call
+    }
+
+    /// Up to 700,000 random bytes or zeros with 50 to 300 lines that have their marks, alone and side by side. Of their sums
+    /// some are right, or none; in one region of eight a line is of type 3.
+    fn long_region(&mut self, header: Header) -> Vec<u8> {
+        let length = self.rng.pick(&[300_000, 420_000, 700_000]) - self.rng.below(200_000) as usize;
+        let mut region = if self.rng.once_in(2) { self.rng.bytes(length) } else { vec![0; length] };
+        let mut places = vec![self.some_line(length / 8)];
+        for _ in 0..self.rng.within(50, 300) {
+            let last = *places.last().unwrap();
+            places.push(match self.rng.below(4) {
+                0 => last + 16,
+                1 => last + 16 * self.rng.within(1, 40) as usize,
+                _ => self.some_line(length),
+            });
+        }
+        places.retain(|place| place + LEAST_COVERED + 2 <= length);
+        places.sort_unstable();
+        places.dedup();
+        let rights = self.rng.pick(&[0, 2, 4, 10, 20, 60]);
+        let unknown = if self.rng.once_in(8) { self.rng.pick(&places) } else { length };
+        let claims: Vec<Claim> = (0..places.len())
+            .map(|i| Claim {
+                place: places[i],
+                covered: self.covered(&places[..=i], length),
+                kind: if places[i] == unknown { 3 } else { self.rng.pick(&[0, 0, 1, 1, 2]) },
+                right: rights > 0 && self.rng.once_in(rights),
+            })
+            .collect();
+        put_claims(header, &mut region, &claims);
+        region
+    }
+
+    /// How many bytes the sum of the last of these lines covers: those around which a sum counts as long, about the most,
+    /// all that the region has, some more than a long one's, any number, or so many that they end near where a window ends
+    /// that begins at an earlier line or behind it, or near one of its places. Mostly the entry then lies in the region.
+    fn covered(&mut self, places: &[usize], length: usize) -> usize {
+        let place = *places.last().unwrap();
+        let room = length - place - 2;
+        let covered = match self.rng.below(10) {
+            0 => self.rng.pick(&[255, 256, 257, 511, 512, 513]),
+            1 => MOST_COVERED - self.rng.below(8) as usize,
+            2 => room,
+            3..=4 => self.rng.within(512, 5000) as usize,
+            5..=7 => {
+                let first = if self.rng.once_in(2) { places[0] } else { self.rng.pick(places) };
+                let begin = first + self.rng.pick(&[0, 16]);
+                let far = begin + WINDOW > place && begin + WINDOW < place + MOST_COVERED;
+                let steps = self.rng.pick(&[4, 16, (MOST_COVERED / WINDOW_STEP) as u64]);
+                let near = WINDOW_STEP * self.rng.within(2, steps) as usize;
+                let end = begin + if far { WINDOW } else { (place - first) / WINDOW_STEP * WINDOW_STEP + near };
+                (end + self.rng.pick(&[0, 1, 2, 2, 2, 3, 4]) - 2).saturating_sub(place)
+            }
+            _ => self.rng.below(MOST_COVERED as u64 + 1) as usize,
+        };
+        let covered = if self.rng.once_in(16) { covered } else { covered.min(room) };
+        covered.clamp(LEAST_COVERED, MOST_COVERED)
     }
 
     pub fn bytes_of_region(&mut self) -> Vec<u8> {

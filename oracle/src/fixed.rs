@@ -3,7 +3,11 @@ use std::collections::BTreeSet;
 
 use crate::{
     calls::{grid_bytes, up16, Call, Header, Region, Slot, State, Step, HEADER, MAX_REGION},
-    draw::{self, fresh_state, mark_zero, put, BUFFER_END, FILLING_ORDINAL, NO_VERSIONS},
+    draw::{
+        self, fresh_state, mark_zero, put, put_claims, Claim, BUFFER_END, FILLING_ORDINAL, MOST_COVERED, NO_VERSIONS,
+        WINDOW, WINDOW_STEP,
+    },
+    rng::Rng,
 };
 
 type Calls = Box<dyn Iterator<Item = Call>>;
@@ -825,6 +829,87 @@ fn large_counts() -> Calls {
     Box::new(starts.chain([far]).map(|region| counting(FIRST, region)))
 }
 
+// ---- long entries
+
+/// The durable end of random bytes with these lines, each by its place, the bytes that its sum covers and whether that is
+/// right; and the count of its entries.
+fn claimed(header: Header, length: usize, lines: &[(usize, usize, bool)]) -> [Call; 2] {
+    let claims: Vec<Claim> = lines
+        .iter()
+        .enumerate()
+        .map(|(i, &(place, covered, right))| Claim { place, covered, kind: i as u32 % 3, right })
+        .collect();
+    let mut bytes = Rng::new(length as u64).bytes(length);
+    put_claims(header, &mut bytes, &claims);
+    let bound = length as u64;
+    [Call::DurableEnd { region: region(bytes.clone()), header, bound }, counting(header, region(bytes))]
+}
+
+/// A right entry behind one wrong long one, or behind two whose sums cover all of it: of each length around the ones from
+/// which on a sum is long, and so that it ends at a place of a window that begins at the line behind the first, or up to
+/// three bytes before it or behind it. A second right entry and a wrong one that covers it follow. Then a right one behind a
+/// wrong one that has summed twice as many bytes as lie before it, one more or one less.
+fn behind_long_entries() -> Calls {
+    let lengths = [255, 256, 257, 510, 511, 512, 513, 514, 767, 768, 769];
+    let lengths = [16, 32, 48, 256, 272, 288].into_iter().flat_map(move |p| lengths.map(|covered| (p, covered)));
+    let places = [16usize, 32, 256, 272, 288, 1040].into_iter().flat_map(|p| {
+        [0, 1, 2, 3, 100, 507].into_iter().flat_map(move |steps| {
+            let end = 16 + p.next_multiple_of(WINDOW_STEP) + (2 + steps) * WINDOW_STEP;
+            (end - 3..=end + 3).map(move |end| (p, end - p))
+        })
+    });
+    let behind = lengths.chain(places).enumerate().flat_map(|(i, (p, covered))| {
+        let next = up16((p + covered + 2) as u64) as usize;
+        [1, 2].into_iter().filter(move |wrong| 16 * wrong <= p).flat_map(move |wrong| {
+            let wrong = (0..wrong).map(|line| (16 * line, MOST_COVERED, false));
+            let lines: Vec<_> =
+                wrong.chain([(p, covered, true), (next, 5000, false), (next + 16, 2000, true)]).collect();
+            claimed(counted_files()[i % 3], 140_000, &lines)
+        })
+    });
+    let twice = [1040, 4096, 32_000].into_iter().flat_map(|p| {
+        (2 * p - 1..=2 * p + 1).flat_map(move |summed| {
+            [511, 512, 513, 40_000].into_iter().flat_map(move |covered| {
+                claimed(FIRST, 110_000, &[(0, summed, false), (p, covered, true), (p + 48_000, 700, true)])
+            })
+        })
+    });
+    Box::new(behind.chain(twice))
+}
+
+/// Behind a chain of wrong long entries a right one that ends where a window ends that begins at the line behind the first,
+/// at the first or at the second, or up to three bytes before that or behind it; with wrong ones just before it and without;
+/// and a right one behind it. Then wrong entries over three windows and more, with a right one flush with the region's end,
+/// or a byte past it.
+fn behind_windows() -> Calls {
+    let chain = [0, 16, 32_768, 65_536, 98_304, 131_056];
+    let ends = [0, 16, 32_768].into_iter().flat_map(|begin| begin + WINDOW - 3..=begin + WINDOW + 3);
+    let far = ends.flat_map(move |end| {
+        [131_072, 100_000, 70_000, 1024, 512].into_iter().flat_map(move |about| {
+            [0, 2].into_iter().flat_map(move |before| {
+                let p = (end - about).next_multiple_of(16);
+                let next = up16(end as u64 + 2) as usize;
+                let wrong = chain.into_iter().chain((1..=before).rev().map(|lines| p - 16 * lines));
+                let wrong = wrong.filter(|&place| place < p).map(|place| (place, MOST_COVERED, false));
+                let mut lines: Vec<_> = wrong.chain([(p, end - p, true), (next + 32, 3000, true)]).collect();
+                lines.sort_unstable();
+                claimed(second(5), 420_000, &lines)
+            })
+        })
+    });
+    let anew = [0, 1].into_iter().flat_map(|short| {
+        [512, 513, 40_000, MOST_COVERED].into_iter().flat_map(move |covered| {
+            let length = 900_000 + (covered + 2) % 16;
+            let wrong = (0..45).map(|i| (20_000 * i, MOST_COVERED.min(length - 20_000 * i - 2), false));
+            let p = length - covered - 2;
+            let mut lines: Vec<_> = wrong.filter(|&(place, ..)| place != p).chain([(p, covered, true)]).collect();
+            lines.sort_unstable();
+            claimed(FIRST, length - short, &lines)
+        })
+    });
+    Box::new(far.chain(anew))
+}
+
 /// All calls that stand for themselves. New groups stand behind the others: of these a sample is recorded by place.
 pub fn calls() -> impl Iterator<Item = Call> {
     let groups: Vec<Calls> = vec![
@@ -861,6 +946,8 @@ pub fn calls() -> impl Iterator<Item = Call> {
         kinds(),
         zero_ends(),
         large_counts(),
+        behind_long_entries(),
+        behind_windows(),
     ];
     groups.into_iter().flatten()
 }

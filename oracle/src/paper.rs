@@ -69,6 +69,8 @@ pub const SLIPS: &[(&str, &str)] = &[
     ("walk-key-shifted", "walk: the key's place is one too far"),
     ("walk-limits", "walk: keys and values over the writer's limits are passed over"),
     ("walk-bound-included", "walk: a line at the bound is tried"),
+    ("walk-long-missed", "walk: an entry whose sum covers 512 bytes or more isn't found behind a bad one of as many"),
+    ("walk-long-far", "walk: an entry that ends 262,144 bytes or more past the line behind such a bad one isn't found"),
     ("bound-uncapped", "used bound: isn't capped at the region's length"),
     ("bound-unrounded", "used bound: isn't rounded up"),
     ("bound-off-by-one", "used bound: the last byte isn't looked at"),
@@ -88,6 +90,7 @@ pub const SLIPS: &[(&str, &str)] = &[
     ("effort-whole-length", "bytes checksummed: the entry's whole length"),
     ("effort-aligned-length", "bytes checksummed: the entry's length rounded up to a line"),
     ("effort-tombstone-as-data", "bytes checksummed: a tombstone adds as much as data without a value"),
+    ("effort-long-once", "bytes checksummed: a bad entry of 512 bytes or more behind another adds nothing"),
     ("effort-last-walk", "durable end: the counts of its last walk alone"),
     ("effort-swapped", "durable end: lines and bytes are swapped"),
     ("effort-16-bits", "durable end: the counts are taken modulo 2^16"),
@@ -153,6 +156,9 @@ pub struct Paper {
     slip: &'static str,
     big: Vec<u8>,
 }
+
+/// An entry of so many bytes has a sum of 512.
+const LONG: u64 = 514;
 
 /// What a line holds.
 enum Line {
@@ -493,11 +499,17 @@ impl Paper {
         let least = if self.slips("walk-needs-ten") { 10 } else { 8 };
         let last = bound + u64::from(self.slips("walk-bound-included"));
         let mut p = up16(offset);
+        let mut behind_long = None;
         while p < last && p + least <= total {
-            let line = self.line(region, header, p, bound);
+            let line = self.line_behind(behind_long, self.line(region, header, p, bound), p);
             let added = self.effort(&line, &region[p as usize..], bound.saturating_sub(p));
+            let long = matches!(line, Line::Bad { length, whole: true } if length >= LONG);
             effort.lines += added.lines;
-            effort.bytes += added.bytes;
+            effort.bytes +=
+                if long && behind_long.is_some() && self.slips("effort-long-once") { 0 } else { added.bytes };
+            if long && behind_long.is_none() {
+                behind_long = Some(p + 16);
+            }
             match line {
                 Line::Unknown => return Said { number: 10, values: vec![p], ..Default::default() },
                 Line::Entry { kind, ns, klen, vlen, length } => {
@@ -510,6 +522,21 @@ impl Paper {
         }
         effort.lines += u64::from(p < bound && self.slips("effort-short-line"));
         Said::values(&[0])
+    }
+
+    /// What the slips in long sums make of the line at `p` behind the walk's first bad long entry.
+    fn line_behind(&self, behind_long: Option<u64>, line: Line, p: u64) -> Line {
+        let (Some(begin), &Line::Entry { length, .. }) = (behind_long, &line) else { return line };
+        let missed = match self.slip {
+            "walk-long-missed" => length >= LONG,
+            "walk-long-far" => p + length - 2 - begin >= 262_144,
+            _ => false,
+        };
+        if missed {
+            Line::Bad { length, whole: true }
+        } else {
+            line
+        }
     }
 
     fn found(&self, region: &[u8], [p, kind, ns, klen, vlen, length]: [u64; 6]) -> Said {

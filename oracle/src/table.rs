@@ -2,9 +2,15 @@
 use std::collections::BTreeMap;
 
 use crate::{
-    calls::{grid_of, Call, Effort, Said, OPERATIONS},
+    calls::{grid_of, Call, Effort, Header, Region, Said, OPERATIONS},
+    draw::WINDOW,
     judge::Judged,
+    library::Side,
+    paper::Paper,
 };
+
+/// A sum of so many bytes is a long one.
+const LONG: usize = 512;
 
 /// The parting of the operation that has no counterpart in the original.
 pub const PART: &str = "part: past the region's end (a slice panics)";
@@ -22,6 +28,17 @@ pub struct Table {
     grids: u64,
     entries: BTreeMap<(usize, usize), u64>,
     largest: u32,
+    long: Long,
+}
+
+/// Durable ends and counts that met a long entry with a wrong sum; the entries that they found behind the first such one,
+/// those of them that are long too, and those whose sum ends as far behind that line as a window reaches, or farther.
+#[derive(Default)]
+struct Long {
+    calls: u64,
+    behind: u64,
+    long: u64,
+    far: u64,
 }
 
 impl Table {
@@ -38,6 +55,7 @@ impl Table {
             let no_entry = judged.said.number == 0 && matches!(judged.said.values[..], [.., 0, _, _]);
             self.in_vain += u64::from(no_entry && bytes > 0);
         }
+        self.long.count(call, judged);
         if let (Call::CountEntries { .. }, 0) = (call, judged.said.number) {
             self.grids += 1;
             for (kind, ns, number) in cells(&judged.said.bytes).filter(|&(.., number)| number != 0) {
@@ -102,11 +120,64 @@ impl Table {
             self.entries.len(),
             grouped(self.largest.into())
         );
+        let Long { calls, behind, long, far } = self.long;
+        println!(
+            "{:>11}  durable ends and counts with a wrong sum of {LONG} bytes or more; behind it {} entries, {} as long, {} past {} bytes",
+            grouped(calls),
+            grouped(behind),
+            grouped(long),
+            grouped(far),
+            grouped(WINDOW as u64)
+        );
     }
 
     fn calls_of(&self, operation: &str) -> u64 {
         self.answers.iter().filter(|((name, _), _)| *name == operation).map(|(_, count)| count).sum()
     }
+}
+
+impl Long {
+    /// The entries are those that document 01 written out lists, which the answer was held to.
+    fn count(&mut self, call: &Call, judged: &Judged) {
+        let (region, header, bound) = match call {
+            Call::DurableEnd { region: Region::Dense(region), header, bound } => (region, *header, *bound),
+            Call::CountEntries { region: Region::Dense(region), header, .. } => (region, *header, region.len() as u64),
+            _ => return,
+        };
+        if !matches!(judged.said.number, 0 | 10) || !(0..region.len()).step_by(16).any(|p| long_at(region, header, p)) {
+            return;
+        }
+        let listed = Paper::plain().say(&Call::Listing { region: Region::Dense(region.clone()), header, bound });
+        let entries: Vec<(usize, usize)> =
+            listed.values.chunks_exact(9).map(|entry| (entry[1] as usize, entry[8] as usize)).collect();
+        let refused = if listed.number == 10 { listed.values.last().copied() } else { None };
+        let end = refused.unwrap_or(bound) as usize;
+        let mut from = 0;
+        let gaps = entries.iter().copied().chain([(end, end)]).map(|(place, next)| {
+            let gap = from..place;
+            from = next.next_multiple_of(16);
+            gap
+        });
+        let Some(wrong) = gaps.flat_map(|gap| gap.step_by(16)).find(|&p| long_at(region, header, p)) else { return };
+        self.calls += 1;
+        for (place, end) in entries.into_iter().filter(|&(place, _)| place > wrong) {
+            self.behind += 1;
+            self.long += u64::from(end - 2 - place >= LONG);
+            self.far += u64::from(end - 2 - wrong >= WINDOW);
+        }
+    }
+}
+
+/// Whether the line has its mark and a long entry that lies whole in the region.
+fn long_at(region: &[u8], header: Header, p: usize) -> bool {
+    let Some(head) = region.get(p..p + 8) else { return false };
+    let length = |i: usize| usize::from(u16::from_le_bytes([head[i], head[i + 1]]));
+    let covered = match head[3] >> 6 {
+        0..=1 => 8 + length(4) + length(6),
+        2 => 6 + length(4),
+        _ => return false,
+    };
+    head[..3] == header.mark(p as u64).to_le_bytes()[..3] && covered >= LONG && p + covered + 2 <= region.len()
 }
 
 /// A number with its thousands apart.

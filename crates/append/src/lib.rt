@@ -74,7 +74,7 @@ fn put_entry(
 {
     let mark = entry::mark_at(seed, at);
     let sum = put_covered(region, at, mark, kind, ns, key, value);
-    let crc = checksum::hash(&region[at..sum]) as u64;
+    let crc = folds::sum(&region[at..sum]) as u64;
     fields::put16(region, sum, crc);
     let end = sum + 2;
     let next = fields::align_up(end);

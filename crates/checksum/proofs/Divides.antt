@@ -22,7 +22,7 @@ multiple-sum nothing hb = hb
 multiple-sum {b = b} (plus {m} k hm) hb =
     subst Multiple (sym (xor-assoc (polynomial * 2 ^ k) m b)) (plus k (multiple-sum hm hb))
 
-multiple-up : {a : ℕ} (j : ℕ) → Multiple a → Multiple (a * 2 ^ j)
+pub multiple-up : {a : ℕ} (j : ℕ) → Multiple a → Multiple (a * 2 ^ j)
 multiple-up j nothing = subst Multiple (omega arith) nothing
 multiple-up j (plus {m} k hm) =
     let up : polynomial * 2 ^ (k + j) ≡ polynomial * 2 ^ k * 2 ^ j =
@@ -50,7 +50,7 @@ step-apart x h =
     (sym (ap (λ (y : ℕ). bitXor y (bitXor l (taken t))) split ∙ xor-cancel (t * 2 ^ 16) l (taken t)))
     (taken-apart t (shr-lt 1 15 h))
 
-steps-apart : (n x : ℕ) → x < 2 ^ 16 → Multiple (bitXor (x * 2 ^ n) (steps n x))
+pub steps-apart : (n x : ℕ) → x < 2 ^ 16 → Multiple (bitXor (x * 2 ^ n) (steps n x))
 unfolding steps
 steps-apart zero x h = subst Multiple (sym (ap (λ (y : ℕ). bitXor y x) (mul-one x) ∙ xor-self x)) nothing
 steps-apart (suc n) x h =
@@ -64,10 +64,10 @@ steps-apart (suc n) x h =
 
 -- ---- what is divided, with one byte more in front
 
-more-bits : (n : ℕ) → 2 ^ (8 * suc n) ≡ 2 ^ 8 * 2 ^ (8 * n)
+pub more-bits : (n : ℕ) → 2 ^ (8 * suc n) ≡ 2 ^ 8 * 2 ^ (8 * n)
 more-bits n = let e : 8 * suc n ≡ 8 + 8 * n = omega arith in ap (λ (k : ℕ). 2 ^ k) e ∙ pow-add 2 8 (8 * n)
 
-value-lt : {bs : List ℕ} → AreBytes bs → value bs < 2 ^ (8 * length bs)
+pub value-lt : {bs : List ℕ} → AreBytes bs → value bs < 2 ^ (8 * length bs)
 unfolding value
 value-lt none = lit< tt
 value-lt (more {b} {bs} hb h) =

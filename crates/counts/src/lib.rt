@@ -36,15 +36,18 @@ fn count_up_to(
     ensures { λ r. ⌜ CountsOut (countsListed (list (markFrom seed) (now (region .entry)) bound 0)) r (now (answer .exit)) (now (place .entry)) (now (place .exit)) ⌝ }
 {
     let mut grid = no_grid();
-    let mut from = 0;
+    let mut registers = [0u16; window::PLACES];
+    let mut powers = [0u16; window::PLACES];
+    let mut passed = scan::nothing_passed();
     loop {
-        let walked = scan::seeded_walk(region, seed, bound, from);
+        let step = scan::list_step(region, seed, bound, passed, &mut registers, &mut powers);
+        let walked = step.walked;
         match walked {
             Walked::Found(e) => {
                 let kind = e.kind as usize;
                 let ns = e.ns as usize;
                 grid[kind][ns] += 1;
-                from = e.end;
+                passed = scan::passed_behind(e, step);
             }
             Walked::End => {
                 *answer = 0;

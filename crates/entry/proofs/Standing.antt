@@ -1,7 +1,7 @@
 -- What stands at a line: an entry from its fields, and the five facts of a line that verifies.
 -- Assumes nothing.
 use Prim.Native.Nat.{ℕ, _+_, _-_, _^_, _<_, _≤_}
-use mathlib.Core.Path.{_≡_, refl}
+use mathlib.Core.Path.{_≡_, refl, sym, ap, ap₂, _∙_}
 use mathlib.Core.List.{List}
 use mathlib.Core.Bool.{Bool, true, false, _&&_}
 use native.Mathlib.Omega.{arith}
@@ -151,3 +151,9 @@ verifies-intact mark s p room m k =
     let four = kind-lt (field 4 s p) in
     let three : wordKind (field 4 s p) < 3 = below (wordKind (field 4 s p)) four k in
     simp (le-leb _ _ room, eq-eqb _ _ m, lt-ltb _ _ three)
+
+-- one that lies within the region is intact where its sum, however it was made, is the one that it holds
+pub intact-by-sum : (s : List ℕ) (e : Entry) (sum given made : ℕ) → e .end ≤ length s → sum ≡ sumPlace e → given ≡ field 2 s sum → made ≡ crc16 (take (sum - e .offset) (drop (e .offset) s)) → eqb given made ≡ intact s e
+unfolding intact agrees
+intact-by-sum s e sum given made within at g m =
+    ap₂ eqb g m ∙ ap (λ (k : ℕ). eqb (field 2 s k) (crc16 (take (k - e .offset) (drop (e .offset) s)))) at ∙ sym (simp (le-leb _ _ within))

@@ -127,7 +127,7 @@ pub fn agrees(s: &[u8], from: usize, sum: usize) -> bool
     requires { ⌜ (from ≤ sum) × (sum + 2 ≤ length (now s)) ⌝ }
     ensures { λ r. ⌜ r ≡ agrees (now (s .entry)) from sum ⌝ }
 {
-    fields::read16(s, sum) == checksum::hash(&s[from..sum]) as u64
+    fields::read16(s, sum) == folds::sum(&s[from..sum]) as u64
 }
 
 // Whether the whole entry lies within s and its checksum agrees. Callers have the entry from

@@ -19,6 +19,7 @@ use Rattle.entry.proofs.Standing.{entry-offset, entry-length, entry-longest}
 use Rattle.scan.specs.Walk.{Step, found, ended, Trial, done, next, orElse, trial, walkLines, walk}
 use Rattle.scan.specs.Listing.{Listed, grow, list}
 use Rattle.scan.specs.Efforts.{noEffort, plus, Counted, behind, orLater, summed, mostPerLine, linesAt, bytesAt, countedLines, countedFrom, countedWalk, walksEffort, listEffort}
+use Rattle.scan.specs.Inner.{later}
 use Rattle.scan.specs.declared.Effort.{Effort}
 use Rattle.scan.proofs.Trials.{found-verified}
 use Rattle.scan.proofs.Walks.{walk-over, walk-found}
@@ -37,12 +38,6 @@ summed-most s e h = go (leb (e .end) (length s)) refl
 past : (bound offset end o w l : ℕ) → aligned offset + 16 * w ≤ o + 16 → aligned offset ≤ o → o + 8 ≤ end → w ≤ (bound + 15 - aligned offset) / 16 → l ≤ (bound + 15 - aligned end) / 16 → w + l ≤ (bound + 15 - aligned offset) / 16
 unfolding aligned
 past bound offset end o w l a b c d e = omega arith
-
--- what goes on behind an entry that was found
-abbrev pub later : Said Step → (Entry → Effort) → Effort
-later (accepted (found e)) rest = rest e
-later (accepted ended) rest = noEffort
-later (refused n values) rest = noEffort
 
 -- of so many lines, each of which adds less than the largest region, no part comes near the largest number, whatever of this kind was spent before
 part-fits : (part rest before whole : Effort) → plus part rest ≡ plus before whole → whole .lines ≤ 16777216 → whole .bytes ≤ 268435456 * whole .lines → (part .lines ≤ before .lines + 16777216) × (part .bytes ≤ before .bytes + 4503599627370496)

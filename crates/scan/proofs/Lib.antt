@@ -6,3 +6,4 @@ pub mod Counting
 pub mod Efforts
 pub mod Only
 pub mod Within
+pub mod Steps

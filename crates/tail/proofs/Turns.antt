@@ -1,5 +1,4 @@
--- One turn of a loop that goes along a region entry by entry: what the walk's answer says of the entries that are left. The durable end and the
--- lister both go by it.
+-- One turn of a loop that goes along a region walk by walk, as the lister does: what the walk's answer says of the entries that are left.
 -- Assumes nothing.
 use Prim.Native.Nat.{ℕ, _+_, _≤_}
 use mathlib.Core.Path.{_≡_, sym, ap, _∙_}
@@ -11,12 +10,10 @@ use Rattle.fields.specs.Numbers.{aligned}
 use Rattle.entry.specs.declared.Entry.{Entry}
 use Rattle.scan.specs.Walk.{Step, said, walk, walkOf}
 use Rattle.scan.specs.Listing.{grow, list}
-use Rattle.scan.specs.Efforts.{plus, countedWalk, listEffort}
 use Rattle.scan.specs.declared.Walked.{Walked}
 use Rattle.scan.specs.declared.Walked.the-variants.{Found}
 use Rattle.scan.proofs.Walks.{Stands, walk-found, walkOf-accepted}
 use Rattle.scan.proofs.Listings.{list-step}
-use Rattle.scan.proofs.Efforts.{later, list-effort}
 use Rattle.tail.specs.Tail.{durable}
 
 module _ (mark : ℕ → ℕ) (s : List ℕ) (bound : ℕ) (small : length s ≤ largestRegion) (within : bound ≤ length s) (from : ℕ) (walked : Walked) (answer : said walked ≡ walkOf mark s bound from) where
@@ -37,9 +34,3 @@ module _ (mark : ℕ → ℕ) (s : List ℕ) (bound : ℕ) (small : length s ≤
   -- what the entries from here on give, they give by this answer and by those behind it
   pub turn-rest : (x : Walked) → walked ≡ x → durable from (grow (said x) (λ (e : Entry). list mark s bound (e .end))) ≡ durable from (list mark s bound from)
   turn-rest x q = ap (durable from) (turn-list x q)
-
-  -- and so is what they take
-  pub turn-effort : (x : Walked) → walked ≡ x → plus (countedWalk mark s bound from .effort) (later (said x) (λ (e : Entry). listEffort mark s bound (e .end))) ≡ listEffort mark s bound from
-  turn-effort x q =
-      ap (λ (y : Said Step). plus (countedWalk mark s bound from .effort) (later y (λ (e : Entry). listEffort mark s bound (e .end)))) (ap said (sym q) ∙ sym asked)
-      ∙ sym (list-effort mark s bound from)

@@ -73,22 +73,19 @@ pub fn seeded_durable_end(region: &[u8], seed: u32, bound: usize) -> CountedEnd
     if region.len() < bound {
         return counted(DurableEnd::Refused(Refusal::BoundPastRegion), 0, 0);
     }
-    let mut from = 0;
-    let mut lines = 0;
-    let mut bytes = 0;
+    let mut registers = [0u16; window::PLACES];
+    let mut powers = [0u16; window::PLACES];
+    let mut passed = scan::nothing_passed();
     loop {
-        let spent = Effort {
-            lines: lines,
-            bytes: bytes,
-        };
-        let step = scan::counted_walk(region, seed, bound, from, spent);
+        let from = passed.from;
+        let step = scan::list_step(region, seed, bound, passed, &mut registers, &mut powers);
         let effort = step.effort;
-        lines = effort.lines;
-        bytes = effort.bytes;
+        let lines = effort.lines;
+        let bytes = effort.bytes;
         let walked = step.walked;
         match walked {
             Walked::Found(e) => {
-                from = e.end;
+                passed = scan::passed_behind(e, step);
             }
             Walked::End => {
                 return counted(DurableEnd::End(fields::align_up(from)), lines, bytes);

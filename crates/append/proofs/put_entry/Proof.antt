@@ -50,8 +50,8 @@ put-covered-requires c κs =
     let n = lengthOf (a .kind) (length (a .key .now)) (length (a .value .now)) in
     omega (arith, mark-lt (a .seed) (a .at), head-bounds (a .kind), aligned-le n)
 
-part-hash-end : tie.Need-part-hash-end
-part-hash-end c = let r = room (c .before .before .before) in omega arith
+part-sum-end : tie.Need-part-sum-end
+part-sum-end c = let r = room (c .before .before .before) in omega arith
 
 put16-requires : tie.Need-put16-requires
 put16-requires c κs = let r = room (c .before .before .before .before .before .before) in omega arith
@@ -85,8 +85,8 @@ returns c =
     let n1 : length covered ≡ headLength (a .kind) + length (a .value .now) + length (a .key .now) = covered-length (markFrom (a .seed) (a .at)) i in
     let p1 : z .put-covered .last .0 ≡ over s (a .at) covered = z .put-covered .ensures .0 ∙ ap (λ (m : ℕ). over s (a .at) (coveredOf m i)) (z .before .before .mark-at .ensures) in
     let n : sum - a .at ≡ length covered = omega arith in
-    let q : h .hash .result ≡ crc16 covered =
-    h .hash .ensures ∙ ap crc16 (ap₂ (λ (k : ℕ) (t : List ℕ). take k (drop (a .at) t)) n p1 ∙ over-back s (a .at) covered (omega arith)) in
+    let q : h .sum .result ≡ crc16 covered =
+    h .sum .ensures ∙ ap crc16 (ap₂ (λ (k : ℕ) (t : List ℕ). take k (drop (a .at) t)) n p1 ∙ over-back s (a .at) covered (omega arith)) in
     let p2 : p .put16 .last .0 ≡ over s (a .at) (covered ++ bytesOf 2 (crc16 covered)) =
     over-then s (a .at) covered (bytesOf 2 (crc16 covered)) sum p1 (p .put16 .ensures ∙ ap (λ (v : ℕ). over (z .put-covered .last .0) sum (bytesOf 2 v)) q) (omega arith) (omega arith) in
     let n2 : length (covered ++ bytesOf 2 (crc16 covered)) ≡ length covered + 2 = length-append covered (bytesOf 2 (crc16 covered)) ∙ ap (λ (k : ℕ). length covered + k) (bytes-length 2 (crc16 covered)) in
@@ -106,7 +106,7 @@ put-entry-spec =
     put-covered-requires
     (λ c. search needs)
     (λ c. search needs)
-    part-hash-end
+    part-sum-end
     (λ c κs. search needs)
     (λ c. search needs)
     put16-requires

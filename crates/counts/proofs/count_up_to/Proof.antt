@@ -8,16 +8,20 @@ use borrow.Author.Needs.{needs}
 use lib.ListN.{length}
 use Rattle.fields.specs.Numbers.{aligned}
 use Rattle.fields.proofs.Lines.{aligned-le}
+use Rattle.window.specs.Windows.{Keeps}
+use Rattle.window.proofs.Places.{keeps-none}
 use Rattle.entry.specs.Words.{markFrom}
 use Rattle.entry.specs.declared.Entry.{Entry}
 use Rattle.scan.specs.Walk.{said}
 use Rattle.scan.specs.Listing.{Listed, grow, list}
+use Rattle.scan.specs.Inner.{Along}
 use Rattle.scan.specs.declared.Walked.{Walked}
+use Rattle.scan.specs.declared.Passed.{Passed}
 use Rattle.scan.specs.declared.Walked.the-variants.{Found}
 use Rattle.scan.proofs.Walks.{Stands, stands-kind, stands-namespace}
 use Rattle.scan.proofs.Listings.{list-few}
+use Rattle.scan.proofs.Steps.{along-none, step-found, step-list, step-along}
 use Rattle.tail.specs.Tail.{unlessStopped}
-use Rattle.tail.proofs.Turns.{turn-found, turn-list}
 use Rattle.counts.specs.Grid.{gridOf}
 use Rattle.counts.specs.Totals.{cell}
 use Rattle.counts.specs.Counts.{countsListed}
@@ -27,44 +31,51 @@ use Rattle.counts.proofs.count_up_to.Statement.{statement}
 use Rattle.counts.proofs.count_up_to.Tie as tie
 
 abbrev Inv-loop : tie.InvT-loop
-Inv-loop region seed bound answer₀ place₀ grid₀ from₀ answer place grid from = (from ≤ length region) × Tallied grid (list (markFrom seed) region bound from .entries) (list (markFrom seed) region bound 0 .entries) × (list (markFrom seed) region bound from .stop ≡ list (markFrom seed) region bound 0 .stop) × (place ≡ place₀)
+Inv-loop region seed bound answer₀ place₀ grid₀ registers₀ powers₀ passed₀ answer place grid registers powers passed =
+    Along (markFrom seed) region bound passed × Tallied grid (list (markFrom seed) region bound (passed .from) .entries) (list (markFrom seed) region bound 0 .entries) × (list (markFrom seed) region bound (passed .from) .stop ≡ list (markFrom seed) region bound 0 .stop) × (place ≡ place₀) × Keeps registers powers region (passed .held .base) (passed .held .count) × (length registers ≡ 1024) × (length powers ≡ 1024)
 
 abbrev μ-loop : tie.MeasureT-loop
-μ-loop region seed bound answer₀ place₀ grid₀ from₀ answer place grid from = bound - from
+μ-loop region seed bound answer₀ place₀ grid₀ registers₀ powers₀ passed₀ answer place grid registers powers passed = bound - passed .from
 
--- from the walk back to the function's entry
-abbrev at-start : tie.After-seeded-walk Inv-loop μ-loop → tie.Start Inv-loop μ-loop
-at-start w = w .before .before .before .before
+-- from the match back to the step, and from there to the loop's head and to the function's entry
+abbrev at-step : tie.After-powers2 Inv-loop μ-loop → tie.After-list-step Inv-loop μ-loop
+at-step z = z .before .before
+
+abbrev at-head : tie.After-list-step Inv-loop μ-loop → tie.At-loop Inv-loop μ-loop
+at-head w = w .before .before .before
+
+abbrev at-start : tie.After-list-step Inv-loop μ-loop → tie.Start Inv-loop μ-loop
+at-start w = at-head w .before .before .before .before
 
 -- what is left behind this walk
-abbrev behind : (w : tie.After-seeded-walk Inv-loop μ-loop) → Walked → Listed
+abbrev behind : (w : tie.After-list-step Inv-loop μ-loop) → Walked → Listed
 behind w x = let a = at-start w .args in grow (said x) (λ (e : Entry). list (markFrom (a .seed)) (a .region .now) (a .bound) (e .end))
 
 -- is what is left to list
-left : (w : tie.After-seeded-walk Inv-loop μ-loop) (x : Walked) → w .seeded-walk .result ≡ x → let a = at-start w .args in list (markFrom (a .seed)) (a .region .now) (a .bound) (w .before .loop .from) ≡ behind w x
+left : (w : tie.After-list-step Inv-loop μ-loop) (x : Walked) → w .list-step .result .walked ≡ x → let a = at-start w .args in list (markFrom (a .seed)) (a .region .now) (a .bound) (at-head w .loop .passed .from) ≡ behind w x
 left w x q =
     let z = at-start w in
-    sym (turn-list (markFrom (z .args .seed)) (z .args .region .now) (z .args .bound) (z .pre .0) (z .pre .1) (w .before .loop .from) (w .seeded-walk .result) (w .seeded-walk .ensures) x q)
+    sym (step-list (markFrom (z .args .seed)) (z .args .region .now) (z .args .bound) (at-head w .loop .passed .from) (w .list-step .result) (w .list-step .ensures .0) x q)
 
 -- so that the cells and what is left behind it are all
-tallied : (w : tie.After-seeded-walk Inv-loop μ-loop) (x : Walked) → w .seeded-walk .result ≡ x → let a = at-start w .args in Tallied (w .before .loop .grid) (behind w x .entries) (list (markFrom (a .seed)) (a .region .now) (a .bound) 0 .entries)
-tallied w x q = rw (left w x q) at (w .before .loop .inv .1)
+tallied : (w : tie.After-list-step Inv-loop μ-loop) (x : Walked) → w .list-step .result .walked ≡ x → let a = at-start w .args in Tallied (at-head w .loop .grid) (behind w x .entries) (list (markFrom (a .seed)) (a .region .now) (a .bound) 0 .entries)
+tallied w x q = rw (left w x q) at (at-head w .loop .inv .1)
 
 -- and the listing ends as what is left behind it does
-stopped : (w : tie.After-seeded-walk Inv-loop μ-loop) (x : Walked) → w .seeded-walk .result ≡ x → let a = at-start w .args in list (markFrom (a .seed)) (a .region .now) (a .bound) 0 .stop ≡ behind w x .stop
-stopped w x q = sym (w .before .loop .inv .2) ∙ ap (λ (l : Listed). l .stop) (left w x q)
+stopped : (w : tie.After-list-step Inv-loop μ-loop) (x : Walked) → w .list-step .result .walked ≡ x → let a = at-start w .args in list (markFrom (a .seed)) (a .region .now) (a .bound) 0 .stop ≡ behind w x .stop
+stopped w x q = sym (at-head w .loop .inv .2) ∙ ap (λ (l : Listed). l .stop) (left w x q)
 
 -- which decides what is told
-told : (w : tie.After-seeded-walk Inv-loop μ-loop) (x : Walked) → w .seeded-walk .result ≡ x → let a = at-start w .args in let all = list (markFrom (a .seed)) (a .region .now) (a .bound) 0 in unlessStopped (behind w x .stop) (gridOf (all .entries)) ≡ countsListed all
+told : (w : tie.After-list-step Inv-loop μ-loop) (x : Walked) → w .list-step .result .walked ≡ x → let a = at-start w .args in let all = list (markFrom (a .seed)) (a .region .now) (a .bound) 0 in unlessStopped (behind w x .stop) (gridOf (all .entries)) ≡ countsListed all
 told w x q =
     let a = at-start w .args in
     listed-stop (list (markFrom (a .seed)) (a .region .now) (a .bound) 0) (stopped w x q)
 
-found : (z : tie.After-walked Inv-loop μ-loop) → let w = z .before .before in let a = at-start w .args in Stands (markFrom (a .seed)) (a .region .now) (aligned (w .before .loop .from)) (a .bound + 15) (z .walked .given .0 .0)
+found : (z : tie.After-walked Inv-loop μ-loop) → let w = at-step (z .before .before) in let a = at-start w .args in Stands (markFrom (a .seed)) (a .region .now) (aligned (at-head w .loop .passed .from)) (a .bound + 15) (z .walked .given .0 .0)
 found z =
-    let w = z .before .before in
+    let w = at-step (z .before .before) in
     let y = at-start w in
-    turn-found (markFrom (y .args .seed)) (y .args .region .now) (y .args .bound) (y .pre .0) (y .pre .1) (w .before .loop .from) (w .seeded-walk .result) (w .seeded-walk .ensures) (z .walked .given .1)
+    step-found (markFrom (y .args .seed)) (y .args .region .now) (y .args .bound) (at-head w .loop .passed .from) (w .list-step .result) (w .list-step .ensures .0) (z .walked .given .1)
 
 -- an entry that is found has its row and its column
 row : (z : tie.After-walked Inv-loop μ-loop) → z .walked .given .0 .0 .kind < 3
@@ -74,17 +85,24 @@ column : (z : tie.After-walked Inv-loop μ-loop) → z .walked .given .0 .0 .ns 
 column z = stands-namespace _ _ _ _ (found z)
 
 -- and its cell has room for one more
-few : (z : tie.After-walked Inv-loop μ-loop) → cell (z .before .before .before .loop .grid) (z .walked .given .0 .0 .kind) (z .walked .given .0 .0 .ns) ≤ 16777216
+few : (z : tie.After-walked Inv-loop μ-loop) → cell (at-head (at-step (z .before .before)) .loop .grid) (z .walked .given .0 .0 .kind) (z .walked .given .0 .0 .ns) ≤ 16777216
 unfolding aligned
 few z =
-    let w = z .before .before in
+    let w = at-step (z .before .before) in
     let y = at-start w in
     let most = list-few (markFrom (y .args .seed)) (y .args .region .now) (y .args .bound) 0 in
-    let cells = tallied-few (w .before .loop .grid) _ _ (z .walked .given .0 .0 .kind) (z .walked .given .0 .0 .ns) (row z) (column z) (w .before .loop .inv .1) in
+    let cells = tallied-few (at-head w .loop .grid) _ _ (z .walked .given .0 .0 .kind) (z .walked .given .0 .0 .ns) (row z) (column z) (at-head w .loop .inv .1) in
     omega arith
 
 loop-holds : tie.Need-loop-holds Inv-loop μ-loop
-loop-holds c = (omega arith, rw (c .no-grid .ensures) (tallied-none _), refl, refl)
+loop-holds c =
+    rw (c .nothing-passed .ensures) (along-none _ _ _, rw (c .before .no-grid .ensures) (tallied-none _), refl, refl, keeps-none _ _ _ _, search needs, search needs)
+
+list-step-requires : tie.Need-list-step-requires Inv-loop μ-loop
+list-step-requires c κs =
+    let l = c .before .before in
+    let pre = l .before .before .before .before .pre in
+    (pre .0, pre .1, l .loop .inv .0, l .loop .inv .4)
 
 mul-grid : tie.Need-mul-grid Inv-loop μ-loop
 mul-grid c = let h = row (c .before) in record { fits = omega arith }
@@ -97,33 +115,44 @@ add-grid c = let h = few (c .before .before) in record { fits = omega arith }
 
 loop-less : tie.Need-loop-less Inv-loop μ-loop
 loop-less c =
-    let z = found (c .before .before) in
-    omega (arith, aligned-le (c .before .before .before .before .before .loop .from))
+    let y = c .before .before .before in
+    let z = found y in
+    let end : c .passed-behind .result .from ≡ y .walked .given .0 .0 .end = ap (λ (p : Passed). p .from) (c .passed-behind .ensures) in
+    omega (arith, aligned-le (at-head (at-step (y .before .before)) .loop .passed .from))
 
 loop-again : tie.Need-loop-again Inv-loop μ-loop
 loop-again c =
-    let z = c .before .before in
-    let w = z .before .before in
+    let z = c .before .before .before in
+    let w = at-step (z .before .before) in
     let q = z .walked .given .1 in
-    (found z .fits, tallied-more _ _ _ _ (row z) (column z) (tallied w _ q), sym (stopped w _ q), w .before .loop .inv .3)
+    let a = at-start w .args in
+    rw (c .passed-behind .ensures) (
+      step-along (markFrom (a .seed)) (a .region .now) (a .bound) (at-head w .loop .passed .from) (w .list-step .result) (w .list-step .ensures .0) q,
+      tallied-more _ _ _ _ (row z) (column z) (tallied w _ q),
+      sym (stopped w _ q),
+      at-head w .loop .inv .3,
+      w .list-step .ensures .1,
+      search needs,
+      search needs,
+    )
 
 returns : tie.Need-returns Inv-loop μ-loop
 returns c =
-    let w = c .before .before in
+    let w = at-step (c .before .before) in
     let q = c .enum-told .given .1 in
-    outs-same _ _ _ _ (told w _ q) (record { tells = tallied-all _ _ (tallied w _ q); says = refl; places = w .before .loop .inv .3 })
+    outs-same _ _ _ _ (told w _ q) (record { tells = tallied-all _ _ (tallied w _ q); says = refl; places = at-head w .loop .inv .3 })
 
 returns-2 : tie.Need-returns-2 Inv-loop μ-loop
 returns-2 c =
     let n = c .before in
-    let w = n .before .before .before .before in
+    let w = at-step (n .before .before .before .before) in
     let q = n .before .before .walked2 .given .1 in
-    outs-same _ _ _ _ (told w _ q) (record { tells = c .no-grid2 .ensures; says = n .number .ensures; places = w .before .loop .inv .3 })
+    outs-same _ _ _ _ (told w _ q) (record { tells = c .no-grid2 .ensures; says = n .number .ensures; places = at-head w .loop .inv .3 })
 
 returns-3 : tie.Need-returns-3 Inv-loop μ-loop
 returns-3 c =
     let n = c .before in
-    let w = n .before .before .before .before in
+    let w = at-step (n .before .before .before .before) in
     let q = n .before .before .walked3 .given .1 in
     outs-same _ _ _ _ (told w _ q) (record { tells = c .no-grid3 .ensures; says = n .number2 .ensures; places = refl })
 
@@ -134,8 +163,11 @@ count-up-to-spec =
     Inv-loop
     μ-loop
     (λ c κs. search needs)
-    loop-holds
     (λ c κs. search needs)
+    loop-holds
+    (λ c. search needs)
+    (λ c. search needs)
+    list-step-requires
     (λ c. search needs)
     mul-grid
     mul-grid-2
@@ -144,6 +176,7 @@ count-up-to-spec =
     add-grid
     (λ c. row (c .before .before))
     (λ c. column (c .before .before))
+    (λ c κs. search needs)
     loop-less
     loop-again
     (λ c. search needs)

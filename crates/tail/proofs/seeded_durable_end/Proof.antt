@@ -1,7 +1,6 @@
--- `tail::seeded_durable_end` meets its contract: the loop keeps that what is left to list decides the answer, and that what was spent so far and what
--- is left to list take are the whole effort.
+-- `tail::seeded_durable_end` meets its contract: the loop goes along the listing, and keeps that what is left to list decides the answer.
 -- Assumes nothing.
-use Prim.Native.Nat.{ℕ, _+_, _-_, _<_, _≤_}
+use Prim.Native.Nat.{ℕ, _+_, _-_, _<_}
 use mathlib.Core.Path.{_≡_, refl, sym, ap, _∙_}
 use native.Mathlib.Omega.{arith}
 use borrow.Author.Needs.{needs}
@@ -10,91 +9,66 @@ use lib.ListN.{length, getD}
 use Rattle.answers.specs.Answers.{accepted}
 use Rattle.fields.specs.Numbers.{aligned}
 use Rattle.fields.proofs.Lines.{aligned-le}
+use Rattle.window.specs.Windows.{Keeps}
+use Rattle.window.proofs.Places.{keeps-none}
 use Rattle.entry.specs.Words.{markFrom}
 use Rattle.entry.specs.declared.Entry.{Entry}
-use Rattle.scan.specs.Walk.{said, walkOf}
+use Rattle.scan.specs.Walk.{said}
 use Rattle.scan.specs.Listing.{grow, list}
-use Rattle.scan.specs.Efforts.{Counted, noEffort, plus, countedWalk, listEffort}
-use Rattle.scan.specs.declared.Effort.{Effort}
+use Rattle.scan.specs.Efforts.{noEffort, listEffort}
+use Rattle.scan.specs.Inner.{later, Along}
 use Rattle.scan.specs.declared.Walked.{Walked}
-use Rattle.scan.proofs.Walks.{Stands, walkOf-accepted}
-use Rattle.scan.proofs.Counting.{taking, plus-none, none-plus, plus-plus, counted-answer}
-use Rattle.scan.proofs.Efforts.{later, list-fits}
+use Rattle.scan.specs.declared.Passed.{Passed}
+use Rattle.scan.proofs.Walks.{Stands}
+use Rattle.scan.proofs.Steps.{along-none, step-found, step-list, step-along, step-over}
 use Rattle.tail.specs.Tail.{saidDurable, durable, durableOf}
 use Rattle.tail.specs.Efforts.{effortOf, Within}
 use Rattle.tail.specs.declared.CountedEnd.{CountedEnd}
 use Rattle.tail.specs.declared.DurableEnd.{DurableEnd}
-use Rattle.tail.proofs.Turns.{turn-found, turn-rest, turn-effort}
 use Rattle.tail.proofs.Zeros.{durable-accepted}
 use Rattle.tail.proofs.Efforts.{effort-accepted, effort-within, none-within}
 use Rattle.tail.proofs.seeded_durable_end.Statement.{statement}
 use Rattle.tail.proofs.seeded_durable_end.Tie as tie
 
 abbrev Inv-loop : tie.InvT-loop
-Inv-loop region seed bound from₀ lines₀ bytes₀ from lines bytes = (from ≤ length region) × (durable from (list (markFrom seed) region bound from) ≡ durableOf (markFrom seed) region bound) × (plus (taking lines bytes) (listEffort (markFrom seed) region bound from) ≡ effortOf (markFrom seed) region bound)
+Inv-loop region seed bound registers₀ powers₀ passed₀ registers powers passed =
+    Along (markFrom seed) region bound passed × (durable (passed .from) (list (markFrom seed) region bound (passed .from)) ≡ durableOf (markFrom seed) region bound) × Keeps registers powers region (passed .held .base) (passed .held .count) × (length registers ≡ 1024) × (length powers ≡ 1024)
 
 abbrev μ-loop : tie.MeasureT-loop
-μ-loop region seed bound from₀ lines₀ bytes₀ from lines bytes = bound - from
+μ-loop region seed bound registers₀ powers₀ passed₀ registers powers passed = bound - passed .from
 
--- from the match back to the walk, and from there to the function's entry
-abbrev at-walk : tie.After-effort Inv-loop μ-loop → tie.After-counted-walk Inv-loop μ-loop
-at-walk z = z .before
+-- from the match back to the step, and from there to the loop's head and to the function's entry
+abbrev at-step : tie.After-effort Inv-loop μ-loop → tie.After-list-step Inv-loop μ-loop
+at-step z = z .before .before .before
 
-abbrev at-start : tie.After-counted-walk Inv-loop μ-loop → tie.Start Inv-loop μ-loop
-at-start w = w .before .before .before .before .before
+abbrev at-head : tie.After-list-step Inv-loop μ-loop → tie.At-loop Inv-loop μ-loop
+at-head w = w .before .before .before
 
--- the walk's answer is that of the walk which doesn't count
-answered : (w : tie.After-counted-walk Inv-loop μ-loop) → let a = at-start w .args in said (w .counted-walk .result .walked) ≡ walkOf (markFrom (a .seed)) (a .region .now) (a .bound) (w .before .loop .from)
-answered w =
-    let a = at-start w .args in
-    let m = markFrom (a .seed) in
-    let s = a .region .now in
-    ap (λ (c : Counted). c .answer) (w .counted-walk .ensures)
-    ∙ counted-answer m s (a .bound) (w .before .loop .from)
-    ∙ sym (walkOf-accepted m s (a .bound) (w .before .loop .from) (omega arith) (omega arith))
+abbrev at-start : tie.After-list-step Inv-loop μ-loop → tie.Start Inv-loop μ-loop
+at-start w = at-head w .before .before .before .before .before
 
 -- what is left to list decides the answer
-rest : (w : tie.After-counted-walk Inv-loop μ-loop) (x : Walked) → w .counted-walk .result .walked ≡ x → let a = at-start w .args in durable (w .before .loop .from) (grow (said x) (λ (e : Entry). list (markFrom (a .seed)) (a .region .now) (a .bound) (e .end))) ≡ durableOf (markFrom (a .seed)) (a .region .now) (a .bound)
+rest : (w : tie.After-list-step Inv-loop μ-loop) (x : Walked) → w .list-step .result .walked ≡ x → let a = at-start w .args in durable (at-head w .loop .passed .from) (grow (said x) (λ (e : Entry). list (markFrom (a .seed)) (a .region .now) (a .bound) (e .end))) ≡ durableOf (markFrom (a .seed)) (a .region .now) (a .bound)
 rest w x q =
     let a = at-start w .args in
-    turn-rest (markFrom (a .seed)) (a .region .now) (a .bound) (omega arith) (omega arith) (w .before .loop .from) (w .counted-walk .result .walked) (answered w) x q ∙ w .before .loop .inv .1
+    let l = at-head w .loop in
+    ap (durable (l .passed .from)) (step-list (markFrom (a .seed)) (a .region .now) (a .bound) (l .passed .from) (w .list-step .result) (w .list-step .ensures .0) x q) ∙ l .inv .1
 
--- what is left to list takes the rest
-whole : (w : tie.After-counted-walk Inv-loop μ-loop) (x : Walked) → w .counted-walk .result .walked ≡ x → let a = at-start w .args in plus (w .counted-walk .result .effort) (later (said x) (λ (e : Entry). listEffort (markFrom (a .seed)) (a .region .now) (a .bound) (e .end))) ≡ effortOf (markFrom (a .seed)) (a .region .now) (a .bound)
-whole w x q =
-    let a = at-start w .args in
-    let m = markFrom (a .seed) in
-    let s = a .region .now in
-    let from = w .before .loop .from in
-    let before = taking (w .before .loop .lines) (w .before .loop .bytes) in
-    let more = later (said x) (λ (e : Entry). listEffort m s (a .bound) (e .end)) in
-    ap (λ (e : Effort). plus e more) (ap (λ (c : Counted). c .effort) (w .counted-walk .ensures))
-    ∙ sym (plus-plus before (countedWalk m s (a .bound) from .effort) more)
-    ∙ ap (plus before) (turn-effort m s (a .bound) (omega arith) (omega arith) from (w .counted-walk .result .walked) (answered w) x q)
-    ∙ w .before .loop .inv .2
-
-found : (z : tie.After-walked Inv-loop μ-loop) → let w = at-walk (z .before .before) in let a = at-start w .args in Stands (markFrom (a .seed)) (a .region .now) (aligned (w .before .loop .from)) (a .bound + 15) (z .walked .given .0 .0)
+found : (z : tie.After-walked Inv-loop μ-loop) → let w = at-step (z .before .before) in let a = at-start w .args in Stands (markFrom (a .seed)) (a .region .now) (aligned (at-head w .loop .passed .from)) (a .bound + 15) (z .walked .given .0 .0)
 found z =
-    let w = at-walk (z .before .before) in
+    let w = at-step (z .before .before) in
     let a = at-start w .args in
-    turn-found (markFrom (a .seed)) (a .region .now) (a .bound) (omega arith) (omega arith) (w .before .loop .from) (w .counted-walk .result .walked) (answered w) (z .walked .given .1)
+    step-found (markFrom (a .seed)) (a .region .now) (a .bound) (at-head w .loop .passed .from) (w .list-step .result) (w .list-step .ensures .0) (z .walked .given .1)
 
--- what was spent so far is no more than a whole region can take
-fits : (w : tie.At-loop Inv-loop μ-loop) → (w .loop .lines ≤ 16777216) × (w .loop .bytes ≤ 4503599627370496)
-fits w =
-    let a = w .before .before .before .before .args in
-    let m = markFrom (a .seed) in
-    let s = a .region .now in
-    list-fits m s (omega arith) (a .bound) (omega arith) (taking (w .loop .lines) (w .loop .bytes)) _ (w .loop .inv .2 ∙ effort-accepted s (a .bound) m (omega arith) (omega arith))
-
--- the walk ended the listing: nothing more is spent
-told : (w : tie.After-counted-walk Inv-loop μ-loop) (x : Walked) → w .counted-walk .result .walked ≡ x → (r : CountedEnd) (end : DurableEnd) → r ≡ record { end = end; effort = w .counted-walk .result .effort } → let a = at-start w .args in let m = markFrom (a .seed) in let s = a .region .now in saidDurable end ≡ durableOf m s (a .bound) → later (said x) (λ (e : Entry). listEffort m s (a .bound) (e .end)) ≡ noEffort → (saidDurable (r .end) ≡ durableOf m s (a .bound)) × ((r .effort ≡ effortOf m s (a .bound)) × Within (a .bound) (r .effort))
+-- the step ended the listing: nothing more is spent
+told : (w : tie.After-list-step Inv-loop μ-loop) (x : Walked) → w .list-step .result .walked ≡ x → (r : CountedEnd) (end : DurableEnd) → r ≡ record { end = end; effort = w .list-step .result .effort } → let a = at-start w .args in let m = markFrom (a .seed) in let s = a .region .now in saidDurable end ≡ durableOf m s (a .bound) → later (said x) (λ (e : Entry). listEffort m s (a .bound) (e .end)) ≡ noEffort → (saidDurable (r .end) ≡ durableOf m s (a .bound)) × ((r .effort ≡ effortOf m s (a .bound)) × Within (a .bound) (r .effort))
 told w x q r end made answer over =
     let a = at-start w .args in
     let m = markFrom (a .seed) in
     let s = a .region .now in
-    let effort : r .effort ≡ effortOf m s (a .bound) = ap (λ (z : CountedEnd). z .effort) made ∙ sym (plus-none (w .counted-walk .result .effort)) ∙ ap (plus (w .counted-walk .result .effort)) (sym over) ∙ whole w x q in
-    let byte : (i : ℕ) → getD s i 0 < 256 = λ i. let g = w .before .before .before .before .shared-slice-known .given i in omega arith in
+    let all = step-over m s (a .bound) (at-head w .loop .passed .from) (w .list-step .result) (w .list-step .ensures .0) x q over in
+    let effort : r .effort ≡ effortOf m s (a .bound) = ap (λ (z : CountedEnd). z .effort) made ∙ all ∙ sym (effort-accepted s (a .bound) m (omega arith) (omega arith)) in
+    let byte : (i : ℕ) → getD s i 0 < 256 = λ i. let g = at-head w .before .before .before .before .shared-slice-known .given i in omega arith in
     (ap (λ (z : CountedEnd). saidDurable (z .end)) made ∙ answer, (effort, rw effort (effort-within s (a .bound) byte m)))
 
 returns : tie.Need-returns Inv-loop μ-loop
@@ -111,41 +85,52 @@ returns-2 c =
     (ap (λ (r : CountedEnd). saidDurable (r .end)) (c .counted2 .ensures) ∙ simp (small, past), (ap (λ (r : CountedEnd). r .effort) (c .counted2 .ensures) ∙ simp (small, past), rw (c .counted2 .ensures) (none-within _)))
 
 loop-holds : tie.Need-loop-holds Inv-loop μ-loop
-loop-holds c = (search needs, sym (durable-accepted _ (omega arith) _ _ (omega arith)), none-plus _ ∙ sym (effort-accepted _ _ _ (omega arith) (omega arith)))
+loop-holds c =
+    rw (c .nothing-passed .ensures) (along-none _ _ _, sym (durable-accepted _ (omega arith) _ _ (omega arith)), keeps-none _ _ _ _, search needs, search needs)
 
-counted-walk-requires : tie.Need-counted-walk-requires Inv-loop μ-loop
-counted-walk-requires c κs = let f = fits c in (omega arith, omega arith, f .0, f .1)
+list-step-requires : tie.Need-list-step-requires Inv-loop μ-loop
+list-step-requires c κs = let i = c .before .before .loop .inv in (omega arith, omega arith, i .0, i .2)
 
 loop-less : tie.Need-loop-less Inv-loop μ-loop
 loop-less c =
-    let z = found (c .before) in
-    omega (arith, aligned-le (at-walk (c .before .before .before) .before .loop .from))
+    let y = c .before .before in
+    let z = found y in
+    let end : c .passed-behind .result .from ≡ y .walked .given .0 .0 .end = ap (λ (p : Passed). p .from) (c .passed-behind .ensures) in
+    omega (arith, aligned-le (at-head (at-step (y .before .before)) .loop .passed .from))
 
 loop-again : tie.Need-loop-again Inv-loop μ-loop
 unfolding durable
 loop-again c =
-    let w = at-walk (c .before .before .before) in
-    let q = c .before .walked .given .1 in
-    (found (c .before) .fits, rest w _ q, whole w _ q)
+    let y = c .before .before in
+    let w = at-step (y .before .before) in
+    let a = at-start w .args in
+    let q = y .walked .given .1 in
+    rw (c .passed-behind .ensures) (
+      step-along (markFrom (a .seed)) (a .region .now) (a .bound) (at-head w .loop .passed .from) (w .list-step .result) (w .list-step .ensures .0) q,
+      rest w _ q,
+      w .list-step .ensures .1,
+      search needs,
+      search needs,
+    )
 
 returns-3 : tie.Need-returns-3 Inv-loop μ-loop
 unfolding durable
 returns-3 c =
-    let w = at-walk (c .before .before .before .before) in
+    let w = at-step (c .before .before .before .before) in
     let q = c .before .before .enum-told .given .1 in
     told w _ q _ _ (c .counted3 .ensures) (ap accepted (c .before .align-up .ensures) ∙ rest w _ q) refl
 
 returns-4 : tie.Need-returns-4 Inv-loop μ-loop
 unfolding durable
 returns-4 c =
-    let w = at-walk (c .before .before .before .before) in
+    let w = at-step (c .before .before .before .before) in
     let q = c .before .before .walked2 .given .1 in
     told w _ q _ _ (c .counted4 .ensures) (rest w _ q) refl
 
 returns-5 : tie.Need-returns-5 Inv-loop μ-loop
 unfolding durable
 returns-5 c =
-    let w = at-walk (c .before .before .before .before) in
+    let w = at-step (c .before .before .before .before) in
     let q = c .before .before .walked3 .given .1 in
     told w _ q _ _ (c .counted5 .ensures) (rest w _ q) refl
 
@@ -159,9 +144,13 @@ seeded-durable-end-spec =
     returns
     (λ c κs. search needs)
     returns-2
+    (λ c κs. search needs)
     loop-holds
-    counted-walk-requires
     (λ c. search needs)
+    (λ c. search needs)
+    list-step-requires
+    (λ c. search needs)
+    (λ c κs. search needs)
     loop-less
     loop-again
     (λ c. search needs)

@@ -10,7 +10,7 @@ use original::{Failure, File};
 
 use crate::{
     library,
-    report::{grouped, Hostile, Panel, Row, SIDES},
+    report::{figure, grouped, Full, Hostile, Panel, Row, SIDES},
     rng::Rng,
 };
 
@@ -33,6 +33,9 @@ pub const ENTRIES: [MakeUp; 4] = [
         words: "data, the longest key (4,096 bytes) and the longest value (32,768), filled up to 36,880 bytes",
     },
 ];
+
+/// Of these entries one is damaged too.
+const DAMAGED: u64 = 4096;
 
 impl MakeUp {
     fn aligned(&self) -> u64 {
@@ -78,6 +81,9 @@ impl Display for Side {
 
 /// A side that takes more seconds than this is asked once.
 pub const SLOW: f64 = 3.0;
+
+/// A full hostile region that would take the library more seconds than this isn't asked.
+pub const TOO_SLOW: f64 = 120.0;
 
 fn told(failure: Failure) -> String {
     format!("the original fails: {failure:?}")
@@ -184,6 +190,61 @@ pub struct Bench {
     pub system: System,
     pub rows: Vec<Row>,
     pub hostile: Vec<Hostile>,
+    pub full: Vec<Full>,
+}
+
+/// How long the entries of a hostile region are: every line has its mark and an entry, and no checksum agrees.
+#[derive(Clone, Copy, PartialEq, Eq)]
+pub enum Lengths {
+    /// As long as an entry can be, or to the region's end: the worst card.
+    Longest,
+    /// Of key and value any number of two bytes, the same in every run. Entries that run past the region's end stay so.
+    Any,
+    /// No key, and a value with which the sum covers so many bytes.
+    Covering(usize),
+}
+
+pub const LENGTHS: [Lengths; 4] = [Lengths::Longest, Lengths::Any, Lengths::Covering(1000), Lengths::Covering(240)];
+
+impl Display for Lengths {
+    fn fmt(&self, formatter: &mut Formatter) -> std::fmt::Result {
+        match self {
+            Lengths::Longest => write!(formatter, "longest entries"),
+            Lengths::Any => write!(formatter, "entries of any length"),
+            Lengths::Covering(count) => write!(formatter, "sums of {}", bytes(*count as u64)),
+        }
+    }
+}
+
+impl Lengths {
+    /// The lengths of key and value at a line of a region.
+    fn at(self, length: usize, place: usize) -> (usize, usize) {
+        match self {
+            Lengths::Longest => {
+                let lengths = reach(length, place) - 10;
+                let klen = lengths.min(LARGEST_LENGTH);
+                (klen, lengths - klen)
+            }
+            Lengths::Any => {
+                let drawn = Rng::new(place as u64).next();
+                (drawn as u16 as usize, (drawn >> 16) as u16 as usize)
+            }
+            Lengths::Covering(count) => (0, count - 8),
+        }
+    }
+
+    /// The bytes that the line's sum covers, if the entry lies whole in the region.
+    fn covered(self, length: usize, place: usize) -> Option<usize> {
+        let (klen, vlen) = self.at(length, place);
+        let covered = 8 + klen + vlen;
+        (place + covered + 2 <= length).then_some(covered)
+    }
+
+    /// What the durable end of such a region takes: every line is tried, and every whole entry summed.
+    fn effort(self, length: usize) -> RawEffort {
+        let covered = (0..length).step_by(16).filter_map(|place| self.covered(length, place));
+        RawEffort { lines: length as u64 / 16, bytes: covered.map(|count| count as u64).sum() }
+    }
 }
 
 impl Bench {
@@ -197,6 +258,7 @@ impl Bench {
             system: System::default(),
             rows: vec![],
             hostile: vec![],
+            full: vec![],
             sizes,
         })
     }
@@ -216,6 +278,9 @@ impl Bench {
         self.tracker()?;
         for length in self.sizes.hostile.clone() {
             self.named(&format!("durable end, hostile {}", bytes(length as u64)), |bench| bench.hostile(length))?;
+        }
+        for lengths in LENGTHS {
+            self.named(&format!("durable end, hostile, {lengths}"), |bench| bench.full_hostile(lengths))?;
         }
         Ok(())
     }
@@ -310,6 +375,24 @@ impl Bench {
         let speed = seconds.map(|s| used as f64 / s / 1e6);
         let label = format!("counts, {}", bytes(entry.length));
         self.row(Panel::Scan, &format!("count entries, entries of {}", bytes(entry.length)), &label, speed);
+        if entry.length == DAMAGED {
+            self.damaged(entry, count)?;
+        }
+        Ok(())
+    }
+
+    /// One byte of the value of the region's middle entry is changed. All lines within that entry are tried as well.
+    fn damaged(&mut self, entry: &MakeUp, count: u64) -> Result<(), String> {
+        let place = (count / 2 * entry.aligned()) as usize + 8 + entry.value.unwrap_or(0) / 2;
+        self.region[place] ^= 1;
+        self.file.put(place as u64, &self.region[place..place + 1]);
+        let used = count * entry.aligned();
+        let effort = RawEffort { lines: count - 1 + entry.aligned() / 16, bytes: count * (entry.length - 2) };
+        let seconds = self.durable_end(used, used, effort)?;
+        let speed = seconds.map(|s| used as f64 / s / 1e6);
+        let label = bytes(entry.length);
+        let title = format!("durable end, one damaged entry of {label}");
+        self.row(Panel::Scan, &title, &format!("one damaged of {label}"), speed);
         Ok(())
     }
 
@@ -439,30 +522,73 @@ impl Bench {
         Ok(())
     }
 
-    /// The worst card of this length: every line has its mark and an entry that reaches as far as it can, and no checksum
-    /// agrees.
-    fn hostile(&mut self, length: usize) -> Result<(), String> {
-        let region = &mut self.region[..length];
+    /// Makes the region's first `length` bytes a hostile region.
+    fn make_hostile(&mut self, lengths: Lengths, length: usize) {
+        let (region, rng) = (&mut self.region[..length], &mut self.rng);
         for (i, line) in region.chunks_exact_mut(16).enumerate() {
-            let lengths = reach(length, 16 * i) - 10;
-            let klen = lengths.min(LARGEST_LENGTH);
+            let (klen, vlen) = lengths.at(length, 16 * i);
             line[..4].copy_from_slice(&mark(16 * i).to_le_bytes());
             line[4..6].copy_from_slice(&(klen as u16).to_le_bytes());
-            line[6..8].copy_from_slice(&((lengths - klen) as u16).to_le_bytes());
-            line[8..].copy_from_slice(&self.rng.next().to_le_bytes());
+            line[6..8].copy_from_slice(&(vlen as u16).to_le_bytes());
+            line[8..].copy_from_slice(&rng.next().to_le_bytes());
         }
-        while let Some(place) = last_verified(region) {
-            region[place + 8..place + 16].copy_from_slice(&self.rng.next().to_le_bytes());
-        }
+        unverify(region, |place| lengths.covered(length, place), rng);
+    }
+
+    /// The durable end of a hostile region of this length, by all three sides.
+    fn compared_hostile(&mut self, lengths: Lengths, length: usize) -> Result<Hostile, String> {
+        self.make_hostile(lengths, length);
         self.file.set_length(length as u64);
-        self.file.put(0, region);
-        let summed = (0..length).step_by(16).map(|place| reach(length, place) as u64 - 2).sum();
-        let effort = RawEffort { lines: length as u64 / 16, bytes: summed };
+        self.file.put(0, &self.region[..length]);
+        let effort = lengths.effort(length);
         let seconds = self.durable_end(length as u64, 0, effort)?;
+        Ok(Hostile { length: length as u64, effort, seconds })
+    }
+
+    /// The worst card of this length.
+    fn hostile(&mut self, length: usize) -> Result<(), String> {
+        let hostile = self.compared_hostile(Lengths::Longest, length)?;
         let label = bytes(length as u64);
-        self.row(Panel::Hostile, &format!("durable end, hostile {label}"), &label, seconds);
-        self.hostile.push(Hostile { length: length as u64, effort, seconds });
+        self.row(Panel::Hostile, &format!("durable end, hostile {label}"), &label, hostile.seconds);
+        self.hostile.push(hostile);
         Ok(())
+    }
+
+    /// All of the region hostile, for the library alone: the original's seconds are those of the longest of the compared
+    /// hostile regions, times as many as the bytes to sum are more.
+    fn full_hostile(&mut self, lengths: Lengths) -> Result<(), String> {
+        let compared = match (lengths, self.hostile.last()) {
+            (Lengths::Longest, Some(worst)) => *worst,
+            _ => self.compared_hostile(lengths, self.sizes.hostile[self.sizes.hostile.len() - 1])?,
+        };
+        let length = self.region.len();
+        let effort = lengths.effort(length);
+        let scaled = compared.seconds.map(|seconds| seconds * effort.bytes as f64 / compared.effort.bytes as f64);
+        let mut seconds = None;
+        if scaled[0] > TOO_SLOW {
+            let (length, scaled) = (bytes(length as u64), figure(scaled[0]));
+            eprintln!("left out: {length} would take the library some {scaled} s, by its {}", bytes(compared.length));
+        } else {
+            seconds = Some(self.library_alone(lengths, effort)?);
+        }
+        self.full.push(Full { lengths, compared, length: length as u64, effort, scaled, seconds });
+        Ok(())
+    }
+
+    fn library_alone(&mut self, lengths: Lengths, effort: RawEffort) -> Result<f64, String> {
+        self.make_hostile(lengths, self.region.len());
+        let mut fewest = f64::INFINITY;
+        for round in 0..self.sizes.rounds {
+            if round > 0 && fewest > SLOW {
+                break;
+            }
+            let (seconds, answer) = timed(|| library::durable_end(&self.region, self.region.len() as u64))?;
+            if answer != (0, effort) {
+                return Err(format!("the library answers {answer:?} instead of 0 and {effort:?}"));
+            }
+            fewest = fewest.min(seconds);
+        }
+        Ok(fewest)
     }
 }
 
@@ -475,26 +601,46 @@ fn reach(length: usize, place: usize) -> usize {
     LONGEST_ENTRY.min(length - place)
 }
 
-/// The last line of a hostile region whose checksum agrees all the same. The sums come from the registers that one pass
-/// over the region leaves behind, since the checksum is linear: no entry is summed up on its own.
-fn last_verified(region: &[u8]) -> Option<usize> {
-    use crc16_ibm3740_fast::update;
-    let mut before = vec![0; region.len() + 1];
-    for (i, byte) in region.iter().enumerate() {
-        before[i + 1] = update(before[i], &[*byte]);
+/// The last eight bytes of every line are drawn anew until the checksum of its entry doesn't agree. `covered` tells of a
+/// line how many bytes its sum covers. The sums come from one pass over the region, from its end on, and no entry is summed
+/// up on its own. The pass takes what the bytes from each place on add to a register, divided by x^8 for each byte: as the
+/// checksum is linear, the sum from p to e is (behind[p] + 0xffff) * x^(8 * (e - p)) + behind[e].
+fn unverify(region: &mut [u8], covered: impl Fn(usize) -> Option<usize>, rng: &mut Rng) {
+    let undo: Vec<u16> = (0..256).map(|low| divided(low, 8)).collect();
+    let step = |register: u16, byte: u8| register >> 8 ^ undo[usize::from(register % 256)] ^ u16::from(byte) << 8;
+    let mut powers = vec![1; LONGEST_ENTRY];
+    for i in 1..powers.len() {
+        powers[i] = crc16_ibm3740_fast::update(powers[i - 1], &[0]);
     }
-    // What as many zeros as the line at hand has summed make of each bit of a register: more of them from line to line.
-    let mut zeros = 0;
-    let mut moved: [u16; 16] = std::array::from_fn(|bit| 1 << bit);
-    (0..region.len()).step_by(16).rev().find(|&place| {
-        let summed = reach(region.len(), place) - 2;
-        let more = vec![0; summed - zeros];
-        moved = moved.map(|register| update(register, &more));
-        zeros = summed;
-        let register = before[place] ^ 0xffff;
-        let past = (0..16).filter(|bit| register >> bit & 1 == 1).fold(0, |sum, bit| sum ^ moved[bit]);
-        let end = place + summed;
-        before[end] ^ past == u16::from_le_bytes([region[end], region[end + 1]])
+    // The longest entry fits into it.
+    let mut behind = vec![0; LONGEST_ENTRY.next_power_of_two()];
+    let room = behind.len();
+    for place in (0..region.len()).step_by(16).rev() {
+        loop {
+            for p in (place..place + 16).rev() {
+                behind[p % room] = step(behind[(p + 1) % room], region[p]);
+            }
+            let Some(count) = covered(place) else { break };
+            let end = place + count;
+            let sum = times(behind[place % room] ^ 0xffff, powers[count]) ^ behind[end % room];
+            if sum != u16::from_le_bytes([region[end], region[end + 1]]) {
+                break;
+            }
+            region[place + 8..place + 16].copy_from_slice(&rng.next().to_le_bytes());
+        }
+    }
+}
+
+/// A register divided by x so many times, modulo the checksum's polynomial.
+fn divided(register: u16, times: u32) -> u16 {
+    (0..times).fold(register, |r, _| if r % 2 == 1 { (r ^ 0x1021) >> 1 | 0x8000 } else { r >> 1 })
+}
+
+/// The product of two registers, modulo the checksum's polynomial.
+fn times(a: u16, b: u16) -> u16 {
+    (0..16).rev().fold(0, |r: u16, bit| {
+        let doubled = r << 1 ^ if r >= 0x8000 { 0x1021 } else { 0 };
+        doubled ^ if a >> bit & 1 == 1 { b } else { 0 }
     })
 }
 

@@ -86,6 +86,7 @@ fn measure(sizes: Sizes, command: String, write: bool) -> Result<(), String> {
         command,
         rows: bench.rows,
         hostile: bench.hostile,
+        full: bench.full,
         system: bench.system,
         sizes: bench.sizes,
     };

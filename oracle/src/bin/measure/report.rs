@@ -1,7 +1,7 @@
 //! The tables of a run, for the screen and as docs/BENCH.md.
 use locker_log::sys::RawEffort;
 
-use crate::cases::{Sizes, System, ENTRIES, SLOW};
+use crate::cases::{Lengths, Sizes, System, ENTRIES, SLOW, TOO_SLOW};
 
 /// The three sides, as the chart and the table call them.
 pub const SIDES: [&str; 3] = ["library", "original, one byte a step", "original, sixteen bytes a step"];
@@ -54,6 +54,7 @@ impl Row {
 }
 
 /// A hostile region: what its durable end took, as the library counts it, and the seconds of the three sides.
+#[derive(Clone, Copy)]
 pub struct Hostile {
     pub length: u64,
     pub effort: RawEffort,
@@ -69,10 +70,36 @@ impl Hostile {
     }
 }
 
+/// All of the region hostile, for the library alone, and a shorter one that all sides were asked about.
+pub struct Full {
+    pub lengths: Lengths,
+    pub compared: Hostile,
+    pub length: u64,
+    pub effort: RawEffort,
+    /// The compared seconds by as many more as the bytes to sum are more.
+    pub scaled: [f64; 3],
+    /// None where it would have taken too long.
+    pub seconds: Option<f64>,
+}
+
+impl Full {
+    fn cells(&self) -> [[String; 7]; 2] {
+        let row = |length, RawEffort { lines, bytes }, [library, one, sixteen]: [String; 3]| {
+            let name = self.lengths.to_string();
+            [name, grouped(length), grouped(lines), grouped(bytes), library, one, sixteen]
+        };
+        let [library, one, sixteen] = self.scaled.map(|seconds| format!("{} scaled", figure(seconds)));
+        let library = self.seconds.map_or(format!("not run, {library}"), figure);
+        let Hostile { length, effort, seconds } = self.compared;
+        [row(length, effort, seconds.map(figure)), row(self.length, self.effort, [library, one, sixteen])]
+    }
+}
+
 /// All of a run.
 pub struct Run {
     pub rows: Vec<Row>,
     pub hostile: Vec<Hostile>,
+    pub full: Vec<Full>,
     pub system: System,
     pub sizes: Sizes,
     pub processors: String,
@@ -129,6 +156,9 @@ const HOSTILE_HEADS: [&str; 7] = [
     "library, GB/s checksummed",
 ];
 
+const FULL_HEADS: [&str; 7] =
+    ["hostile region of", "bytes", "lines tried", "bytes checksummed", "library, s", "original 1, s", "original 16, s"];
+
 impl Run {
     /// What the numbers mean: sentences for the screen and for the document.
     fn notes(&self) -> Vec<String> {
@@ -154,7 +184,9 @@ impl Run {
         ];
         notes.push(format!(
             "Scans are of a region of {} bytes. The entries: {}. Neighbours have different keys and values. `every mark \
-             wrong` has random bytes and no right mark; `zeros` are zeros that were written.",
+             wrong` has random bytes and no right mark; `zeros` are zeros that were written. `One damaged entry` is the region \
+             of these entries with one byte of a value changed, in the middle: its entry is summed in vain, and every line \
+             within it is tried.",
             grouped(sizes.region as u64),
             ENTRIES.iter().map(|entry| format!("{} = {}", grouped(entry.length), entry.words)).collect::<Vec<_>>().join("; ")
         ));
@@ -199,6 +231,14 @@ impl Run {
              (document 02, request 8), and were held to that sum; docs/HOSTILE.md tells what a full card costs."
                 .to_string(),
         );
+        notes.push(format!(
+            "The last table has the worst card again, and hostile regions of other entries: of any length (of key and value \
+             each any number of two bytes; those that run past the region's end aren't summed), and of no key and a value \
+             with which each sum covers 1,000 or 240 bytes. Each was asked of all three sides at the shorter length, and of \
+             the library alone at the full one, where its counts were held to what they have to be. `Scaled` are seconds of \
+             the shorter length, times as many as the bytes checksummed are more: the original's at the full length, and the \
+             library's where they come to over {TOO_SLOW} s, which isn't run."
+        ));
         notes.push(
             "Wrong marks, zeros and the tracker take no checksum: there the two columns of the original differ by chance."
                 .to_string(),
@@ -215,13 +255,16 @@ impl Run {
         }));
         let mut hostile = vec![HOSTILE_HEADS.map(str::to_string)];
         hostile.extend(self.hostile.iter().map(Hostile::cells));
+        let mut full = vec![FULL_HEADS.map(str::to_string)];
+        full.extend(self.full.iter().flat_map(Full::cells));
         let mut text = format!(
-            "{}; load averages {} at the start, {} at the end\n\n{}\n{}\n",
+            "{}; load averages {} at the start, {} at the end\n\n{}\n{}\n{}\n",
             self.processors,
             self.load_before,
             self.load_after,
             in_columns(&rows, 2),
-            in_columns(&hostile, 0)
+            in_columns(&hostile, 0),
+            in_columns(&full, 1)
         );
         for note in self.notes() {
             text += &wrapped(&note.replace('`', ""), 100, "- ", "  ");
@@ -246,6 +289,10 @@ impl Run {
         text += &format!("\n| {} |\n|---:|---:|---:|---:|---:|---:|---:|\n", HOSTILE_HEADS.join(" | "));
         for hostile in &self.hostile {
             text += &format!("| {} |\n", hostile.cells().join(" | "));
+        }
+        text += &format!("\n| {} |\n|---|---:|---:|---:|---:|---:|---:|\n", FULL_HEADS.join(" | "));
+        for cells in self.full.iter().flat_map(Full::cells) {
+            text += &format!("| {} |\n", cells.join(" | "));
         }
         text += "\n## What the numbers mean\n\n";
         for note in self.notes() {
