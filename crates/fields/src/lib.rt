@@ -22,12 +22,14 @@ pub fn read16(s: &[u8], p: usize) -> u64
     wide(s[p]) + wide(s[p + 1]) * 256
 }
 
-// The number in four bytes from p on. The caller has seen that they lie within s.
+// The number in four bytes from p on. The caller has seen that they lie within s. All four bytes
+// stand in one sum, not in two halves: so the compiler makes one load of them even for a caller that
+// looks at the lower three alone, as the walk does at every line with a wrong mark.
 pub fn read32(s: &[u8], p: usize) -> u64
     requires { ⌜ p + 4 ≤ length (now s) ⌝ }
     ensures { λ r. ⌜ (r ≡ field 4 (now (s .entry)) p) × (r < 2 ^ 32) ⌝ }
 {
-    read16(s, p) + read16(s, p + 2) * 65536
+    wide(s[p]) + 256 * wide(s[p + 1]) + 65536 * wide(s[p + 2]) + 16777216 * wide(s[p + 3])
 }
 
 // The number in eight bytes from p on. The caller has seen that they lie within s.

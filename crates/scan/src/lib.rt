@@ -132,26 +132,22 @@ fn judge(
     }
 }
 
-// The first line from p on that has its mark, or with which the walk ends. A loop of its own: most
-// lines of a damaged card have a wrong mark, and here there is nothing else to keep, nor to count.
+// Passes lines from p on that have a wrong mark. A loop of its own: most lines of a damaged card
+// have one, and here there is nothing else to keep, nor to count. One test tells that eight bytes of
+// a line lie before the bound; a last line with fewer is left to the walk.
 fn skip(region: &[u8], seed: u32, bound: usize, p: usize) -> usize
     requires { ⌜ (length (now region) ≤ largestRegion) × (bound ≤ length (now region)) × (p < bound + 16) ⌝ }
     ensures { λ r. ⌜ Skips (markFrom seed) (now (region .entry)) bound p r ⌝ }
 {
     let mut q = p;
-    loop {
-        if bound <= q {
-            return q;
-        }
-        if region.len() - q < 8 {
-            return q;
-        }
+    while q + 8 <= bound {
         let word = fields::read32(region, q);
         if entry::word_mark(word) == entry::mark_at(seed, q) {
             return q;
         }
         q += 16;
     }
+    q
 }
 
 // The walk, and what it took on top of what was spent before. Callers have seen that neither 3 nor

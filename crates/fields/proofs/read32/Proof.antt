@@ -1,20 +1,48 @@
--- `fields::read32` meets its contract: a field is its two halves.
+-- `fields::read32` meets its contract: the four bytes as the definition adds them.
 -- Assumes nothing.
-use mathlib.Core.Path.{_≡_}
-use Prim.Native.Nat.{_+_, _*_, _^_}
+use Prim.Native.Nat.{ℕ, _+_, _*_}
+use mathlib.Core.Path.{_≡_, ap}
+use mathlib.Core.List.{List}
 use native.Mathlib.Omega.{arith}
+use lib.ListN.{getD}
 use borrow.Author.Needs.{needs}
 use Rattle.fields.specs.Numbers.{field}
-use Rattle.fields.proofs.Widths.{field-join}
 use Rattle.fields.proofs.read32.Statement.{statement}
 use Rattle.fields.proofs.read32.Tie as tie
 
+-- a field of four bytes, byte by byte
+four : (s : List ℕ) (p : ℕ) → field 4 s p ≡ getD s p 0 + getD s (p + 1) 0 * 256 + getD s (p + 2) 0 * 65536 + getD s (p + 3) 0 * 16777216
+unfolding field
+four s p =
+    let third : getD s (p + 1 + 1) 0 ≡ getD s (p + 2) 0 = ap (λ (k : ℕ). getD s k 0) (omega arith) in
+    let fourth : getD s (p + 1 + 1 + 1) 0 ≡ getD s (p + 3) 0 = ap (λ (k : ℕ). getD s k 0) (omega arith) in
+    omega arith
+
 returns : tie.Need-returns
 returns c =
-    let s = c .before .before .before .args .s .now in
-    let p = c .before .before .before .args .p in
-    let join : field 4 s p ≡ field 2 s p + field 2 s (p + 2) * 256 ^ 2 = field-join 2 2 s p in
+    let a = c .before .before .before .before .before .before .before .before .before .args in
+    let e = four (a .s .now) (a .p) in
     (omega arith, omega arith)
 
 pub read32-spec : {M : Type 1} → statement M
-read32-spec = tie.close (tie.spec (λ c κs. search needs) (λ c. search needs) (λ c κs. search needs) (λ c. search needs) (λ c. search needs) returns)
+read32-spec =
+    tie.close
+    (tie.spec
+    (λ c. search needs)
+    (λ c κs. search needs)
+    (λ c. search needs)
+    (λ c. search needs)
+    (λ c κs. search needs)
+    (λ c. search needs)
+    (λ c. search needs)
+    (λ c. search needs)
+    (λ c. search needs)
+    (λ c κs. search needs)
+    (λ c. search needs)
+    (λ c. search needs)
+    (λ c. search needs)
+    (λ c. search needs)
+    (λ c κs. search needs)
+    (λ c. search needs)
+    (λ c. search needs)
+    returns)

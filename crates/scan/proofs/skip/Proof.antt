@@ -26,7 +26,7 @@ left : (w : tie.At-loop Inv-loop μ-loop) → let a = at-start w .args in Skips 
 left w = let i = w .loop .inv in record { more = i .1; less = i .0; same = i .2 }
 
 -- what was read and compared
-mark-read : (w : tie.After-mark-at Inv-loop μ-loop) → let h = w .before .before .before .before .before in w .before .word-mark .result ≡ wordMark (field 4 (at-start h .args .region .now) (h .loop .q))
+mark-read : (w : tie.After-mark-at Inv-loop μ-loop) → let h = w .before .before .before .before in w .before .word-mark .result ≡ wordMark (field 4 (at-start h .args .region .now) (h .loop .q))
 mark-read w = cc
 
 loop-holds : tie.Need-loop-holds Inv-loop μ-loop
@@ -41,7 +41,7 @@ loop-holds c =
 loop-again : tie.Need-loop-again Inv-loop μ-loop
 loop-again c =
     let z = c .before in
-    let w = z .before .before .before .before .before in
+    let w = z .before .before .before .before in
     let a = at-start w .args in
     let q = w .loop .q in
     let m = markFrom (a .seed) in
@@ -49,7 +49,7 @@ loop-again c =
       omega arith,
       omega arith,
       ap (λ (n : ℕ). behind (taking n 0) (countedFrom m s (a .bound) (q + 16))) (one-more (a .p) q (w .loop .inv .1))
-          ∙ sym (unmarked-on m s (a .bound) q ((q - a .p) / 16) 0 (omega arith) (omega arith) (λ e. c .if3 .left (mark-read z ∙ e ∙ sym (z .mark-at .ensures))))
+          ∙ sym (unmarked-on m s (a .bound) q ((q - a .p) / 16) 0 (omega arith) (omega arith) (λ e. c .if1 .left (mark-read z ∙ e ∙ sym (z .mark-at .ensures))))
           ∙ w .loop .inv .2,
     )
 
@@ -60,13 +60,12 @@ skip-spec =
     Inv-loop
     μ-loop
     loop-holds
-    (λ c. left (c .before))
     (λ c. omega arith)
-    (λ c. left (c .before .before))
     (λ c κs. omega arith)
     (λ c κs. search needs)
     (λ c κs. search needs)
-    (λ c. left (c .before .before .before .before .before .before))
+    (λ c. left (c .before .before .before .before .before))
     (λ c. omega arith)
     (λ c. omega arith)
-    loop-again)
+    loop-again
+    (λ c. left (c .before)))

@@ -271,7 +271,7 @@ impl Bench {
             self.named(&name, |bench| bench.full(entry))?;
         }
         self.named("durable end, every mark wrong", Self::wrong_marks)?;
-        self.named("used bound of zeros", Self::zeros)?;
+        self.named("durable end and used bound of zeros", Self::zeros)?;
         for entry in &ENTRIES {
             self.named(&format!("append of {}", bytes(entry.length)), |bench| bench.appends(entry))?;
         }
@@ -413,11 +413,16 @@ impl Bench {
         Ok(())
     }
 
-    /// Zeros that were written: pages of their own on both sides.
+    /// Zeros that were written: pages of their own on both sides. A line whose mark is 0 has it, and with no key and no
+    /// value eight bytes to sum up, whose checksum isn't 0.
     fn zeros(&mut self) -> Result<(), String> {
         self.region.fill(0);
         self.file.put(0, &self.region);
         let length = self.region.len() as u64;
+        let marked = (0..self.region.len()).step_by(16).filter(|&p| mark(p) == 0).count() as u64;
+        let seconds = self.durable_end(length, 0, RawEffort { lines: length / 16, bytes: 8 * marked })?;
+        let speed = seconds.map(|s| length as f64 / s / 1e6);
+        self.row(Panel::Scan, "durable end, zeros", "zeros", speed);
         let seconds = self.used_bound(self.sizes.rounds, 0)?;
         let speed = seconds.map(|s| length as f64 / s / 1e6);
         self.row(Panel::Scan, "used bound of zeros", "used bound of zeros", speed);

@@ -240,7 +240,8 @@ impl Run {
              library's where they come to over {TOO_SLOW} s, which isn't run."
         ));
         notes.push(
-            "Wrong marks, zeros and the tracker take no checksum: there the two columns of the original differ by chance."
+            "Wrong marks and the tracker take no checksum, zeros one of eight bytes: there the two columns of the original \
+             differ by chance."
                 .to_string(),
         );
         notes
