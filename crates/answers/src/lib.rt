@@ -1,6 +1,8 @@
 // Document 01, "Answer numbers": the refusals of the locker log, by name. Code elsewhere names a
 // case and never a bare number; a later request adds its own case here, with one line in
 // specs/Numbers.antt and one in `number` below.
+#![tactic(auto)]
+
 ghost use Rattle.std.specs.Prelude.{◌≡◌};
 ghost use Rattle.answers.specs.Numbers.{number_of, number_of_verdict};
 ghost use Rattle.answers.specs.Versions.{is_version};
@@ -100,6 +102,7 @@ pub fn number(refusal: Refusal) -> u32
 }
 
 // Whether a file may have this version. Any other gets 2 (document 02, request 10).
+#[tactic(auto, unfolding(crate::specs::Versions::is_version))]
 pub fn is_version(version: u64) -> bool
     ensures { result ≡ is_version version }
 {

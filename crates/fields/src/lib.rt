@@ -2,6 +2,8 @@
 //
 // These are building blocks: each asks of its caller that its bytes lie within the slice, and the
 // prover holds every caller to that. None of them is a public operation of the locker log.
+#![tactic(auto)]
+
 ghost use Rattle.std.specs.Prelude.{◌≡◌, ◌+◌, ◌^◌, ◌<◌, ◌≤◌, length, replicate};
 ghost use Rattle.fields.specs.Numbers.{field, bytes_of, aligned};
 ghost use Rattle.fields.specs.Runs.{over};
