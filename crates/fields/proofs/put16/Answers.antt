@@ -5,17 +5,15 @@ use Prim.Native.Nat.{◌+◌, ◌/◌, ◌%◌}
 use mathlib.Core.List.{List, [], ◌∷◌}
 use Prim.Native.Nat.{ℕ}
 use native.Mathlib.Omega.{arith}
-use borrow.Author.Rules.{rules}
 use lib.ListN.{set, length-set}
 use Rattle.fields.specs.Numbers.{bytes_of}
 use Rattle.fields.proofs.Laying.{over_one, over_set}
-use Rattle.fields.proofs.put16.Statement.{statement}
-use Rattle.fields.proofs.put16.Tie as tie
+use Rattle.fields.proofs.put16.Goals as goal
 
-slice-write-region-2 : tie.Need-slice-write-region-2
-slice-write-region-2 c = simp length-set (omega arith)
+pub bounds-region-at-2 : goal.bounds-region-at-2
+bounds-region-at-2 c = simp length-set (omega arith)
 
-returns : tie.Need-returns
+pub returns : goal.returns
 unfolding bytes_of
 returns c =
     let s = c.args.region.now in
@@ -23,6 +21,3 @@ returns c =
     let v = c.args.v in
     ap (λ (t : List ℕ). set t (at + 1) (v / 256 % 256)) (over_one s at (v % 256) (omega arith))
     ∙ over_set s at (v % 256 ∷ []) 1 (v / 256 % 256) refl (omega arith)
-
-pub put16_spec : {M : Type 1} → statement M
-put16_spec = tie.close (tie.spec (λ c. search rules) (λ c. search rules) (λ c. search rules) (λ c. search rules) slice-write-region-2 (λ c. search rules) returns)

@@ -5,10 +5,8 @@ use mathlib.Core.Path.{◌≡◌, ap}
 use mathlib.Core.List.{List}
 use native.Mathlib.Omega.{arith}
 use lib.ListN.{get_or}
-use borrow.Author.Rules.{rules}
 use Rattle.fields.specs.Numbers.{field}
-use Rattle.fields.proofs.read32.Statement.{statement}
-use Rattle.fields.proofs.read32.Tie as tie
+use Rattle.fields.proofs.read32.Goals as goal
 
 -- a field of four bytes, byte by byte
 four : (s : List ℕ) (p : ℕ) → field 4 s p ≡ get_or s p 0 + get_or s (p + 1) 0 * 256 + get_or s (p + 2) 0 * 65536 + get_or s (p + 3) 0 * 16777216
@@ -18,31 +16,8 @@ four s p =
     let fourth : get_or s (p + 1 + 1 + 1) 0 ≡ get_or s (p + 3) 0 = ap (λ (k : ℕ). get_or s k 0) (omega arith) in
     omega arith
 
-returns : tie.Need-returns
+pub returns : goal.returns
 returns c =
-    let a = c.before.before.before.before.before.before.before.before.before.args in
+    let a = c.args in
     let e = four a.s.now a.p in
     (omega arith, omega arith)
-
-pub read32_spec : {M : Type 1} → statement M
-read32_spec =
-    tie.close
-    (tie.spec
-    (λ c. search rules)
-    (λ c κs. search rules)
-    (λ c. search rules)
-    (λ c. search rules)
-    (λ c κs. search rules)
-    (λ c. search rules)
-    (λ c. search rules)
-    (λ c. search rules)
-    (λ c. search rules)
-    (λ c κs. search rules)
-    (λ c. search rules)
-    (λ c. search rules)
-    (λ c. search rules)
-    (λ c. search rules)
-    (λ c κs. search rules)
-    (λ c. search rules)
-    (λ c. search rules)
-    returns)
