@@ -2,12 +2,8 @@
 -- Assumes nothing.
 use Rattle.folds.specs.Folded.{quotient, folded}
 use Rattle.folds.proofs.Folds.{fold, power_1}
-use Rattle.folds.proofs.fold16.Statement.{statement}
-use Rattle.folds.proofs.fold16.Tie as tie
+use Rattle.folds.proofs.fold16.Goals as goal
 
-returns : tie.Need-returns
+pub returns : goal.returns
 unfolding quotient folded
 returns c = fold 1 c.args.x c.ranges.x.fits power_1
-
-pub fold16_spec : {M : Type 1} → statement M
-fold16_spec = tie.close (tie.spec returns)

@@ -2,22 +2,17 @@
 -- Assumes nothing.
 use mathlib.Core.Path.{sym, ap₂, ◌∙◌}
 use Prim.Native.Nat.{ℕ, ◌+◌, ◌*◌, ◌/◌, ◌%◌, ◌^◌}
-use borrow.Author.Rules.{rules}
 use lib.Bits.{bit_xor}
 use Rattle.folds.specs.Folded.{kept}
 use Rattle.folds.proofs.Halves.{quotient_halves, folded_halves}
-use Rattle.folds.proofs.fold_brought.Statement.{statement}
-use Rattle.folds.proofs.fold_brought.Tie as tie
+use Rattle.folds.proofs.fold_brought.Goals as goal
 
-returns : tie.Need-returns
+pub returns : goal.returns
 unfolding kept
 returns c =
-    let s = c.before in
+    let s = c in
     let hi = s.args.hi in
     let lo = s.args.lo in
     ap₂ (λ (u l : ℕ). bit_xor (bit_xor u (u * 2 ^ 40 % 2 ^ 64)) (bit_xor (l / 2 ^ 24) (l * 2 ^ 32 % 2 ^ 64)))
-    (sym (quotient_halves hi lo s.ranges.hi.fits s.ranges.lo.fits).0) c.quotient-low.ensures
+    (sym (quotient_halves hi lo s.ranges.hi.fits s.ranges.lo.fits).0) c.quotient_low-low.ensures
     ∙ sym (folded_halves (hi * 2 ^ 64 + lo)).0
-
-pub fold_brought_spec : {M : Type 1} → statement M
-fold_brought_spec = tie.close (tie.spec (λ c κs. search rules) returns)

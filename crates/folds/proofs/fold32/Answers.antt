@@ -2,12 +2,8 @@
 -- Assumes nothing.
 use Rattle.folds.specs.Folded.{quotient, folded}
 use Rattle.folds.proofs.Folds.{fold, power_2}
-use Rattle.folds.proofs.fold32.Statement.{statement}
-use Rattle.folds.proofs.fold32.Tie as tie
+use Rattle.folds.proofs.fold32.Goals as goal
 
-returns : tie.Need-returns
+pub returns : goal.returns
 unfolding quotient folded
 returns c = fold 2 c.args.x c.ranges.x.fits power_2
-
-pub fold32_spec : {M : Type 1} → statement M
-fold32_spec = tie.close (tie.spec returns)
