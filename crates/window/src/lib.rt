@@ -3,6 +3,8 @@
 // The window has the registers of the bytes from its base on, one for every 256 bytes, and beside
 // them stand the powers of x ^ 2048. Both are lent by the caller, who keeps between calls where the
 // window begins and how many of its registers are there.
+#![tactic(auto)]
+
 ghost use Rattle.std.specs.Prelude.{◌≡◌, ◌+◌, ◌-◌, ◌*◌, ◌/◌, ◌<◌, ◌≤◌, length, take, drop};
 ghost use Rattle.checksum.specs.Catalogue.{step, crc16};
 ghost use Rattle.window.specs.Windows.{Powers, Keeps, Reaches, Times};
