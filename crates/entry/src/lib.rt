@@ -2,6 +2,8 @@
 //
 // These are building blocks of the read at a place, the appends and the walk. Those that look at
 // bytes ask of their caller that the bytes are there, and the prover holds every caller to that.
+#![tactic(auto)]
+
 ghost use Rattle.std.specs.Prelude.{◌≡◌, ◌+◌, ◌^◌, ◌<◌, ◌≤◌, length};
 ghost use Rattle.entry.specs.Words.{mark_from, seed_of, word_of, word_mark, word_namespace, word_kind};
 ghost use Rattle.entry.specs.Layout.{head_length, placed, sum_place, entry_at, agrees, intact};
