@@ -17,14 +17,14 @@ pub const APART: usize = 256;
 const POWER: u16 = 64848;
 
 // Where the window begins, and how many of its registers are there: none before it is opened.
-#[derive(Drop)]
+#[derive(Clone, Copy)]
 pub struct Held {
     pub base: usize,
     pub count: usize,
 }
 
 // A sum, and where the window stands after it.
-#[derive(Drop)]
+#[derive(Clone, Copy)]
 pub struct Summed {
     pub sum: u16,
     pub held: Held,

@@ -5,10 +5,9 @@ use mathlib.Core.Path.{◌≡◌, ap, ap₂, ◌∙◌}
 use native.Mathlib.Omega.{arith}
 use lib.Bits.{bit_or, or_shifted}
 use Rattle.entry.specs.Words.{word_of}
-use Rattle.entry.proofs.word_of.Statement.{statement}
-use Rattle.entry.proofs.word_of.Tie as tie
+use Rattle.entry.proofs.word_of.Goals as goal
 
-returns : tie.Need-returns
+pub returns : goal.returns
 unfolding word_of
 returns c =
     let kind = c.args.kind in
@@ -20,6 +19,3 @@ returns c =
     let lifted : kind * 2 ^ 30 + ns * 2 ^ 24 ≡ (kind * 64 + ns) * 2 ^ 24 = omega arith in
     let joined : bit_or ((kind * 64 + ns) * 2 ^ 24) mark ≡ (kind * 64 + ns) * 2 ^ 24 + mark = or_shifted (kind * 64 + ns) 24 mark (omega arith) in
     ap (λ (x : ℕ). bit_or x mark) (ap₂ bit_or high middle ∙ upper ∙ lifted) ∙ joined ∙ omega arith
-
-pub word_of_spec : {M : Type 1} → statement M
-word_of_spec = tie.close (tie.spec returns)

@@ -3,12 +3,8 @@
 use Prim.Native.Nat.{◌/◌, ◌^◌}
 use lib.Bits.{and_mask}
 use Rattle.entry.specs.Words.{word_kind}
-use Rattle.entry.proofs.word_kind.Statement.{statement}
-use Rattle.entry.proofs.word_kind.Tie as tie
+use Rattle.entry.proofs.word_kind.Goals as goal
 
-returns : tie.Need-returns
+pub returns : goal.returns
 unfolding word_kind
 returns c = and_mask (c.args.word / 2 ^ 30) 2
-
-pub word_kind_spec : {M : Type 1} → statement M
-word_kind_spec = tie.close (tie.spec returns)
