@@ -7,14 +7,12 @@ use Rattle.entry.proofs.entry_at.Goals as goal
 
 pub returns-then-kind-eq-TOMBSTONE : goal.returns-then-kind-eq-TOMBSTONE
 returns-then-kind-eq-TOMBSTONE c =
-    let k = c in
-    let a = k.args in
+    let a = c.args in
     c.placed.ensures
     ∙ entry_from_fields a.s.now a.p (cc) (cc) (cc) (simp (eq-eqb _ _ c.if-kind-eq-TOMBSTONE.true))
 
 pub returns : goal.returns
 returns c =
-    let k = c in
-    let a = k.args in
+    let a = c.args in
     c.placed-2.ensures
     ∙ entry_from_fields a.s.now a.p (cc) (cc) (cc) (simp (ne_eqb _ _ c.if-kind-eq-TOMBSTONE.false) c.read16-vlen.ensures.0)

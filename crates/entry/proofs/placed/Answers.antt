@@ -5,4 +5,4 @@ use Rattle.entry.proofs.placed.Goals as goal
 
 pub returns : goal.returns
 unfolding placed
-returns c = simp c.head_length_lem.ensures.0
+returns c = simp c.head_length.ensures.0

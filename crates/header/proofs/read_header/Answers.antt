@@ -29,8 +29,7 @@ returns-then-not-is_version c =
     sym c.read64.ensures ∙ c.if-read64-ne-SIGNATURE.false ∙ sym signature_number in
     let version_tested : c.is_version.result ≡ is_version (field 4 c.args.header.now 8) =
     c.is_version.ensures ∙ ap is_version c.read32-version.ensures.0 in
-    let z = c in
-    simp (le-ltb _ _ z.if-header-lt-HEADER_LENGTH.false, eq-eqb _ _ (signed), ap not (sym (version_tested)) ∙ c.if-not-is_version.true)
+    simp (le-ltb _ _ c.if-header-lt-HEADER_LENGTH.false, eq-eqb _ _ (signed), ap not (sym (version_tested)) ∙ (ap not c.if-not-is_version.true))
 
 pub returns : goal.returns
 unfolding read_of read_tests
@@ -39,7 +38,5 @@ returns c =
     sym c.read64.ensures ∙ c.if-read64-ne-SIGNATURE.false ∙ sym signature_number in
     let version_tested : c.is_version.result ≡ is_version (field 4 c.args.header.now 8) =
     c.is_version.ensures ∙ ap is_version c.read32-version.ensures.0 in
-    let v = c in
-    let z = v in
-    simp (le-ltb _ _ z.if-header-lt-HEADER_LENGTH.false, eq-eqb _ _ (signed), ap not (sym (version_tested)) ∙ c.if-not-is_version.false)
-    (ap₂ (λ (x y : ℕ). accepted (x, y)) v.read32-version.ensures.0 c.read64-2.ensures)
+    simp (le-ltb _ _ c.if-header-lt-HEADER_LENGTH.false, eq-eqb _ _ (signed), ap not (sym (version_tested)) ∙ (ap not c.if-not-is_version.false))
+    (ap₂ (λ (x y : ℕ). accepted (x, y)) c.read32-version.ensures.0 c.read64-2.ensures)

@@ -22,9 +22,8 @@ unfolding write_of
 returns-then-not-is_version c =
     let version_tested : not (is_version c.args.version) ≡ not c.is_version.result =
     ap not (sym c.is_version.ensures) in
-    let v = c in
-    let long = le-ltb _ _ v.if-lent-lt-HEADER_LENGTH.false in
-    let wrong = version_tested ∙ c.if-not-is_version.true in
+    let long = le-ltb _ _ c.if-lent-lt-HEADER_LENGTH.false in
+    let wrong = version_tested ∙ (ap not c.if-not-is_version.true) in
     record { says = simp (long, wrong); leaves = simp (long, wrong) }
 
 pub returns : goal.returns
@@ -32,24 +31,16 @@ unfolding write_of header_of signature bytes_of
 returns c =
     let version_tested : not (is_version c.args.version) ≡ not c.is_version.result =
     ap not (sym c.is_version.ensures) in
-    let f = c in
-    let o = f in
-    let z = o in
-    let w = z in
-    let g = w in
-    let t = g in
-    let v = t in
-    let start = v in
-    let s = start.args.lent.now in
+    let s = c.args.lent.now in
     let a = bytes_of 8 0x3154_4144_4B43_4F4C in
-    let b = bytes_of 4 start.args.version in
+    let b = bytes_of 4 c.args.version in
     let d = bytes_of 4 0 in
-    let e = bytes_of 8 start.args.ordinal in
+    let e = bytes_of 8 c.args.ordinal in
     let zeros : List ℕ = replicate 4072 0 in
-    let p2 = over_then s 0 a b 8 g.put64.ensures w.put32.ensures refl (omega arith) in
-    let p3 = over_then s 0 (a ++ b) d 12 p2 z.put32-2.ensures refl (omega arith) in
-    let p4 = over_then s 0 ((a ++ b) ++ d) e 16 p3 o.put64-2.ensures refl (omega arith) in
-    let p5 = over_then s 0 (((a ++ b) ++ d) ++ e) zeros 24 p4 f.fill.ensures refl (omega arith) in
-    let long = le-ltb _ _ v.if-lent-lt-HEADER_LENGTH.false in
-    let right = version_tested ∙ t.if-not-is_version.false in
+    let p2 = over_then s 0 a b 8 c.put64.ensures c.put32.ensures refl (omega arith) in
+    let p3 = over_then s 0 (a ++ b) d 12 p2 c.put32-2.ensures refl (omega arith) in
+    let p4 = over_then s 0 ((a ++ b) ++ d) e 16 p3 c.put64-2.ensures refl (omega arith) in
+    let p5 = over_then s 0 (((a ++ b) ++ d) ++ e) zeros 24 p4 c.fill.ensures refl (omega arith) in
+    let long = le-ltb _ _ c.if-lent-lt-HEADER_LENGTH.false in
+    let right = version_tested ∙ (ap not c.if-not-is_version.false) in
     record { says = simp (long, right); leaves = simp (long, right) p5 }

@@ -6,12 +6,8 @@ use borrow.Author.Rules.{rules}
 use lib.Bits.{bit_xor}
 use Rattle.checksum.specs.Catalogue.{step}
 use Rattle.window.proofs.Products.{taken_times}
-use Rattle.window.proofs.double.Statement.{statement}
-use Rattle.window.proofs.double.Tie as tie
+use Rattle.window.proofs.double.Goals as goal
 
-returns : tie.Need-returns
+pub returns : goal.returns
 unfolding step
 returns c = let r = c.args.r in ap (bit_xor (r * 2 % 2 ^ 16)) (taken_times (r / 2 ^ 15) (search rules))
-
-pub double_spec : {M : Type 1} → statement M
-double_spec = tie.close (tie.spec (λ c. search rules) returns)
