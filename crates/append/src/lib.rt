@@ -1,6 +1,8 @@
 // Document 01, append: a data entry or a tombstone is written at the used count, and the new used
 // count is the answer. `append_data` and `append_tombstone` are the public operations, for a file of
 // either version (document 02, request 10); the seeded ones take the mark's seed.
+#![tactic(auto)]
+
 ghost use Rattle.std.specs.Prelude.{◌≡◌, true, [], ◌+◌, ◌%◌, ◌^◌, ◌<◌, ◌≤◌, length};
 ghost use Rattle.answers.specs.Numbers.{number_of_verdict};
 ghost use Rattle.answers.specs.Versions.{version_refusal};
