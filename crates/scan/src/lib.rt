@@ -3,6 +3,8 @@
 // a file of either version (document 02, request 10); the seeded walk takes the mark's seed. The
 // counted walk does the work of both and counts what it takes (request 8); the list step is that
 // walk for those that go through a whole region, as the durable end does.
+#![tactic(auto)]
+
 ghost use Rattle.std.specs.Prelude.{◌≡◌, ◌+◌, ◌^◌, ◌<◌, ◌≤◌, true, length};
 ghost use Rattle.answers.specs.Limits.{largest_region};
 ghost use Rattle.entry.specs.Words.{mark_from};
