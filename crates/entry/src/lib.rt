@@ -22,7 +22,7 @@ pub const UNKNOWN: u64 = 3;
 
 // Where an entry stands: its line, its type, its namespace, the lengths and places of key and
 // value, and one past its checksum, not rounded up.
-#[derive(Drop)]
+#[derive(Clone, Copy)]
 pub struct Entry {
     pub offset: usize,
     pub kind: u64,
