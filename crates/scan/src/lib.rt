@@ -19,7 +19,7 @@ use answers::Refusal;
 use entry::Entry;
 use window::Held;
 
-#[derive(Drop)]
+#[derive(Clone, Copy)]
 pub enum Walked {
     Found(Entry),
     End,
@@ -29,14 +29,14 @@ pub enum Walked {
 }
 
 // Lines whose mark a walk compared, and bytes that it checksummed.
-#[derive(Drop)]
+#[derive(Clone, Copy)]
 pub struct Effort {
     pub lines: usize,
     pub bytes: usize,
 }
 
 // What a walk answers, what it took, and how far the window has come that it was lent.
-#[derive(Drop)]
+#[derive(Clone, Copy)]
 pub struct CountedWalk {
     pub walked: Walked,
     pub effort: Effort,
@@ -45,7 +45,7 @@ pub struct CountedWalk {
 
 // How far somebody has come who goes through a region from 0 on: the offset where the next step
 // begins, what was spent up to there, and the window.
-#[derive(Drop)]
+#[derive(Clone, Copy)]
 pub struct Passed {
     pub from: usize,
     pub effort: Effort,
