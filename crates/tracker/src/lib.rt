@@ -339,7 +339,7 @@ pub fn record(tracker: Tracker, shard: usize, delta: i8) -> AfterRecord
 
 // ---- complete and abandon
 
-#[derive(Drop)]
+#[derive(Clone, Copy)]
 pub enum FinishAnswer {
     Done,
     Stale,
