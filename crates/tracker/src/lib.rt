@@ -112,6 +112,7 @@ fn head_sound(count: usize, held: u64, next: u64) -> bool
     held < next
 }
 
+#[tactic(auto, using(crate::proofs::Sounds::sound_zero))]
 pub fn is_sound(tracker: Tracker) -> bool
     ensures { result ≡ sound (view tracker) }
 {

@@ -1,4 +1,5 @@
 -- `tracker::abandon`: it is complete without a delta.
+-- Assumes nothing.
 use Rattle.std.proofs.Common.{subst}
 use Rattle.tracker.specs.State.{State, view}
 use Rattle.tracker.specs.Finishing.{FinishMet}

@@ -1,4 +1,5 @@
 -- `tracker::all_empty`: every length passed is 0.
+-- Assumes nothing.
 use Rattle.std.proofs.Common.{◌≡◌, ℕ, ◌-◌, ◌≤◌, ◌<◌, get_or}
 use Rattle.tracker.proofs.all_empty.Given as goal
 

@@ -1,4 +1,5 @@
 -- `tracker::checkpoint`: each part is what its helper answers.
+-- Assumes nothing.
 use Rattle.std.proofs.Common.{sym, ◌∙◌, arith}
 use Rattle.tracker.proofs.Ints.{reads64}
 use Rattle.tracker.proofs.Sounds.{sound_roomy}

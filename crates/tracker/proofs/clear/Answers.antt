@@ -1,4 +1,5 @@
 -- `tracker::clear`: what it builds is the cleared view at once.
+-- Assumes nothing.
 use Rattle.std.proofs.Common.{refl, sym, ◌∙◌}
 use Rattle.tracker.specs.State.{view, queue_of}
 use Rattle.tracker.specs.Clearing.{cleared}

@@ -1,4 +1,5 @@
 -- `tracker::drain`: a queue more is drained, and all of them.
+-- Assumes nothing.
 use Rattle.std.proofs.Common.{◌≡◌, length, refl, sym, ◌∙◌, arith, rules}
 use mir.Val.{to_z}
 use mir.Syntax.{w64}

@@ -1,4 +1,5 @@
 -- `tracker::drain`: the queues passed are drained, the others as they were, and the total is the sum so far.
+-- Assumes nothing.
 use Rattle.std.proofs.Common.{◌-◌, ◌≤◌}
 use Rattle.tracker.proofs.Totals.{Drains}
 use Rattle.tracker.proofs.drain.Given as goal

@@ -1,4 +1,5 @@
 -- `tracker::front_of`: an entry more, the first at or above the limit, and the end.
+-- Assumes nothing.
 use Rattle.std.proofs.Common.{◌+◌, get_or, pos, ◌∙◌, arith, rules}
 use mir.Val.{SFits, to_z}
 use mir.Syntax.{w64, w8}

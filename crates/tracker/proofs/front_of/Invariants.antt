@@ -1,4 +1,5 @@
 -- `tracker::front_of`: what is passed is summed and counted, and the rest is still to come.
+-- Assumes nothing.
 use Rattle.std.proofs.Common.{◌-◌, ◌≤◌}
 use Rattle.tracker.proofs.Fronts.{Passed}
 use Rattle.tracker.proofs.front_of.Given as goal

@@ -1,11 +1,8 @@
 -- `tracker::is_sound`: a shard by the three tests, and the whole by its shards.
+-- Assumes nothing.
 use Rattle.std.proofs.Common.{below_more, arith}
-use Rattle.tracker.proofs.Sounds.{sound_zero, sound_false, sound_true, head_false, queue_false, order_false, three_true}
+use Rattle.tracker.proofs.Sounds.{sound_false, sound_true, head_false, queue_false, order_false, three_true}
 use Rattle.tracker.proofs.is_sound.Goals as goal
-
-pub returns-then-next-eq0 : goal.returns-then-next-eq0
-returns-then-next-eq0 c =
-    sound_zero _ c.if-next-eq0.true
 
 pub returns-then-not-head_sound : goal.returns-then-not-head_sound
 returns-then-not-head_sound c =
@@ -28,4 +25,4 @@ loop-s-preserved c = (
 
 pub returns : goal.returns
 returns c =
-    sound_true c.args.tracker c.if-next-eq0.false (λ k p. c.loop-s.invariant.1 k (omega arith))
+    sound_true c.args.tracker (λ e. absurd (omega (arith, e))) (λ k p. c.loop-s.invariant.1 k (omega arith))

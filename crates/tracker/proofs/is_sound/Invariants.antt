@@ -1,4 +1,5 @@
 -- `tracker::is_sound`: every shard passed is sound.
+-- Assumes nothing.
 use Rattle.std.proofs.Common.{◌≡◌, ℕ, true, ◌-◌, ◌≤◌, ◌<◌}
 use Rattle.tracker.specs.State.{view}
 use Rattle.tracker.specs.Sound.{shard_sound}

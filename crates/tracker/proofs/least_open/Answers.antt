@@ -1,4 +1,5 @@
 -- `tracker::least_open`: nothing is passed yet.
+-- Assumes nothing.
 use Rattle.std.proofs.Common.{arith}
 use Rattle.tracker.proofs.Leasts.{start}
 use Rattle.tracker.proofs.least_open.Goals as goal

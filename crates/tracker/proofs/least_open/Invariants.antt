@@ -1,4 +1,5 @@
 -- `tracker::least_open`: what is kept, and the slots that are left, lead to the answer.
+-- Assumes nothing.
 use Rattle.std.proofs.Common.{◌≡◌, ◌-◌, ◌≤◌, drop}
 use Rattle.tracker.specs.Least.{least_from, least_of}
 use Rattle.tracker.proofs.least_open.Given as goal

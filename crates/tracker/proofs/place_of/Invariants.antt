@@ -1,4 +1,5 @@
 -- `tracker::place_of`: no number passed is larger.
+-- Assumes nothing.
 use Rattle.std.proofs.Common.{ℕ, ◌+◌, ◌-◌, ◌≤◌, ◌<◌, get_or}
 use Rattle.tracker.proofs.place_of.Given as goal
 

@@ -1,4 +1,5 @@
 -- `tracker::push`: the law of one entry more.
+-- Assumes nothing.
 use Rattle.std.proofs.Common.{◌≡◌, length, rules}
 use mir.Facts.{to_z-of_z}
 use mir.Syntax.{w8}

@@ -1,4 +1,5 @@
 -- `tracker::put_delta`: from the place that is looked at on, all stand one place further.
+-- Assumes nothing.
 use Rattle.std.proofs.Common.{ℤ, pos, ◌≤◌}
 use Rattle.tracker.proofs.Inserts.{Raised}
 use Rattle.tracker.proofs.put_delta.Given as goal

@@ -1,4 +1,5 @@
 -- `tracker::put_number`: from the place that is looked at on, all stand one place further.
+-- Assumes nothing.
 use Rattle.std.proofs.Common.{ℕ, ◌≤◌}
 use Rattle.tracker.proofs.Inserts.{Raised}
 use Rattle.tracker.proofs.put_number.Given as goal

@@ -1,4 +1,5 @@
 -- `tracker::queue_ascends`: one pair that falls, or none.
+-- Assumes nothing.
 use Rattle.std.proofs.Common.{ℕ, ◌+◌, ◌-◌, get_or, leb, sym, arith}
 use borrow.Author.Tests.{lt-leb}
 use Rattle.tracker.proofs.Runs.{all_true, all_false}

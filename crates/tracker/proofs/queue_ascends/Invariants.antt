@@ -1,4 +1,5 @@
 -- `tracker::queue_ascends`: every number passed is at most the one behind it.
+-- Assumes nothing.
 use Rattle.std.proofs.Common.{◌≡◌, ℕ, true, ◌+◌, ◌-◌, ◌≤◌, ◌<◌, get_or, leb}
 use Rattle.tracker.proofs.queue_ascends.Given as goal
 

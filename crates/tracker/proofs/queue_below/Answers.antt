@@ -1,4 +1,5 @@
 -- `tracker::queue_below`: of numbers that ascend the last one tells.
+-- Assumes nothing.
 use Rattle.std.proofs.Common.{arith}
 use Rattle.tracker.proofs.Ascents.{last_tells}
 use Rattle.tracker.proofs.queue_below.Goals as goal

@@ -1,4 +1,5 @@
 -- `tracker::record`: by its verdict, whose number is the table's, and by the law of one entry more.
+-- Assumes nothing.
 use Rattle.std.proofs.Common.{◌≡◌, ◌<◌, ◌^◌, length, sym, ◌∙◌, arith, rules}
 use mir.Facts.{to_z-of_z}
 use mir.Syntax.{w8}

@@ -1,4 +1,5 @@
 -- `tracker::reserve`: by its verdict, whose number is the table's.
+-- Assumes nothing.
 use Rattle.std.proofs.Common.{◌≡◌, ◌<◌, ◌^◌, length, arith, rules}
 use Rattle.tracker.proofs.Reserves.{reserve_refused, reserve_accepted, free}
 use Rattle.tracker.proofs.reserve.Goals as goal

@@ -1,4 +1,5 @@
 -- `tracker::slide_deltas`: the places passed have what stood further on, and the others are as they were.
+-- Assumes nothing.
 use Rattle.std.proofs.Common.{ℤ, pos, ◌-◌, ◌≤◌}
 use Rattle.tracker.specs.Inner.{Slid}
 use Rattle.tracker.proofs.slide_deltas.Given as goal

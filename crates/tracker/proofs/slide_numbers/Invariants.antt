@@ -1,4 +1,5 @@
 -- `tracker::slide_numbers`: the places passed have what stood further on, and the others are as they were.
+-- Assumes nothing.
 use Rattle.std.proofs.Common.{ℕ, ◌-◌, ◌≤◌}
 use Rattle.tracker.specs.Inner.{Slid}
 use Rattle.tracker.proofs.slide_numbers.Given as goal

@@ -1,4 +1,5 @@
 -- `tracker::sum_below`: a queue more, and all of them.
+-- Assumes nothing.
 use Rattle.std.proofs.Common.{arith}
 use mir.Val.{to_z}
 use mir.Syntax.{w64}

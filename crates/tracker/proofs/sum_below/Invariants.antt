@@ -1,4 +1,5 @@
 -- `tracker::sum_below`: the total is the sum over the queues passed, and small.
+-- Assumes nothing.
 use Rattle.std.proofs.Common.{◌-◌, ◌≤◌}
 use Rattle.tracker.proofs.Totals.{Adding}
 use Rattle.tracker.proofs.sum_below.Given as goal
