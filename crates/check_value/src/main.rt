@@ -43,10 +43,8 @@ fn in_two(out: &impl Print, first: &[u8], rest: &[u8]) -> io::Result<()> {
 }
 
 fn at_each_place(out: &impl Print, digits: &[u8]) -> io::Result<()> {
-    let mut at = 0;
-    while at <= digits.len() {
+    for at in 0..=digits.len() {
         in_two(out, &digits[..at], &digits[at..])?;
-        at += 1;
     }
     Ok(())
 }

@@ -122,10 +122,8 @@ fn step(out: &impl Print, region: &[u8], bound: usize, b: Progress) -> io::Resul
 // The whole log: sixteen entries at the most, and the logs here have fewer.
 fn boot(out: &impl Print, region: &[u8], bound: usize) -> io::Result<Progress> {
     let mut b = nothing();
-    let mut turns: u64 = 0;
-    while turns < 16 {
+    for _ in 0..16u8 {
         b = step(out, region, bound, b)?;
-        turns += 1;
         if b.through {
             return Ok(b);
         }
