@@ -1,7 +1,7 @@
 -- `lister::list_card` is safe: a header that was accepted is 4,096 bytes long, so the data region begins within the card, and its version is one of
 -- the two.
 -- Assumes nothing.
-use Rattle.std.proofs.Common.{sym, ap, ◌∙◌, arith, rules}
+use Rattle.std.proofs.Common.{sym, ap, ◌∙◌, rules}
 use Rattle.header.specs.Header.{said_header}
 use Rattle.header.proofs.Accepted.{accepted_long, accepted_version}
 use Rattle.lister.proofs.list_card.Goals as goal

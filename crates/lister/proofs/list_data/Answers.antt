@@ -1,6 +1,6 @@
 -- `lister::list_data` is safe: the used bound lies within the region, and the region is far from the largest.
 -- Assumes nothing.
-use Rattle.std.proofs.Common.{sym, ap, ◌∙◌, arith, rules}
+use Rattle.std.proofs.Common.{sym, ap, ◌∙◌, arith}
 use Rattle.tail.specs.Tail.{said_used}
 use Rattle.tail.proofs.Zeros.{used_within}
 use Rattle.lister.proofs.list_data.Goals as goal
