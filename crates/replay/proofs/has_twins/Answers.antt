@@ -1,9 +1,7 @@
 -- `replay::has_twins` meets its contract. The invariant: what is left of the list has two equal ordinals exactly if the list has.
 -- Assumes nothing.
-use Prim.Native.Nat.{◌-◌}
 use mathlib.Core.Path.{sym, ◌∙◌}
 use native.Mathlib.Omega.{arith}
-use Rattle.replay.specs.Start.{twins}
 use Rattle.replay.proofs.Listings.{twins_found, twins_passed, twins_over}
 use Rattle.replay.proofs.has_twins.Goals as goal
 

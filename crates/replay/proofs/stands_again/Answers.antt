@@ -1,9 +1,7 @@
 -- `replay::stands_again` meets its contract. The invariant: the ordinal stands in what is left of the list exactly if it stands after its place.
 -- Assumes nothing.
-use Prim.Native.Nat.{◌-◌}
 use mathlib.Core.Path.{sym, ◌∙◌}
 use native.Mathlib.Omega.{arith}
-use Rattle.replay.specs.Start.{listed}
 use Rattle.replay.proofs.Listings.{listed_found, listed_passed, listed_over}
 use Rattle.replay.proofs.stands_again.Goals as goal
 

@@ -1,12 +1,12 @@
 -- `replay::start_file` meets its contract. The invariant: of the files passed, replay begins at the one kept.
 -- Assumes nothing.
-use Prim.Native.Nat.{◌+◌, ◌-◌}
+use Prim.Native.Nat.{◌+◌}
 use mathlib.Core.Path.{sym, subst, ◌∙◌}
-use mathlib.Core.Logic.{⊎_elim}
 use native.Mathlib.Omega.{arith}
 use Rattle.replay.proofs.Choices.{Kept, kept_first, kept_on, kept_new, first_suits, second_suits}
 use Rattle.replay.proofs.Starts.{start_many, start_equal, start_nothing, start_found_lem}
 use Rattle.replay.proofs.start_file.Goals as goal
+use Rattle.replay.proofs.start_file.Goals.{then-starts_before, else-starts_before}
 
 pub returns-then-ordinals-gt64 : goal.returns-then-ordinals-gt64
 returns-then-ordinals-gt64 c = start_many _ _ c.if-ordinals-gt64.true
@@ -24,10 +24,10 @@ pub loop-i-preserved : goal.loop-i-preserved
 loop-i-preserved c =
     let kept = c.loop-i.invariant.0 in
     let shown = c.starts_before.ensures in (
-      ⊎_elim
-          (λ w. subst (Kept _ _ (c.loop-i.i + 1)) (sym w.1) (kept_new _ _ _ _ kept (first_suits _ _ _ _ shown w.0.taken)))
-          (λ w. subst (Kept _ _ (c.loop-i.i + 1)) (sym w.1) (kept_on _ _ _ _ kept (second_suits _ _ _ _ shown w.0.left)))
-          c.if-starts_before.branch,
+      elim c.if-starts_before.branch [
+        | then-starts_before w ↦ subst (Kept _ _ (c.loop-i.i + 1)) (sym w.place-is) (kept_new _ _ _ _ kept (first_suits _ _ _ _ shown w.if-starts_before.true))
+        | else-starts_before w ↦ subst (Kept _ _ (c.loop-i.i + 1)) (sym w.place-is) (kept_on _ _ _ _ kept (second_suits _ _ _ _ shown w.if-starts_before.false))
+      ],
       omega arith,
     )
 
