@@ -16,13 +16,15 @@ mod thirteen;
 mod versions;
 mod walks;
 
-fn main() {
-    headers::trials();
-    appends::trials();
-    walks::trials();
-    reads::trials();
-    thirteen::trials();
-    versions::trials();
-    efforts::trials();
-    grids::trials();
+use std::io;
+
+fn main(rt: HostRuntime) -> io::Result<()> {
+    headers::trials(&rt)?;
+    appends::trials(&rt)?;
+    walks::trials(&rt)?;
+    reads::trials(&rt)?;
+    thirteen::trials(&rt)?;
+    versions::trials(&rt)?;
+    efforts::trials(&rt)?;
+    grids::trials(&rt)
 }
