@@ -1,6 +1,8 @@
 // Document 01's tracker rules, with document 02's request 6, on worked traces: a line for each
 // step, which says what was asked and what was answered. What it writes is held to the file
 // `stdout`, which was checked line by line against the documents.
+#![tactic(auto)]
+
 use answers::{Refusal, Verdict};
 use replay::StartAnswer;
 use slots::SlotAnswer;

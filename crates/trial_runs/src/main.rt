@@ -5,6 +5,8 @@
 //
 // Left out: refusal 3, which needs a region of 268,435,457 bytes, more than a program's stack holds;
 // and the mark 0 at offset 173,966,336, which the proved table has.
+#![tactic(auto)]
+
 mod appends;
 mod efforts;
 mod grids;
