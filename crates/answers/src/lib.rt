@@ -21,7 +21,7 @@ pub const VERSION_1: u64 = 1;
 
 pub const VERSION_2: u64 = 2;
 
-#[derive(Drop)]
+#[derive(Clone, Copy)]
 pub enum Refusal {
     // 1: header shorter than 4,096
     HeaderTooShort,
@@ -67,7 +67,7 @@ pub enum Refusal {
 }
 
 // What a check answers that runs before anything is written.
-#[derive(Drop)]
+#[derive(Clone, Copy)]
 pub enum Verdict {
     Accepted,
     Refused(Refusal),

@@ -1,6 +1,8 @@
 // Document 01, append: a data entry or a tombstone is written at the used count, and the new used
 // count is the answer. `append_data` and `append_tombstone` are the public operations, for a file of
 // either version (document 02, request 10); the seeded ones take the mark's seed.
+#![tactic(auto)]
+
 ghost use Rattle.std.specs.Prelude.{◌≡◌, true, [], ◌+◌, ◌%◌, ◌^◌, ◌<◌, ◌≤◌, length};
 ghost use Rattle.answers.specs.Numbers.{number_of_verdict};
 ghost use Rattle.answers.specs.Versions.{version_refusal};
@@ -43,8 +45,8 @@ fn put_covered(
     key: &[u8],
     value: &[u8],
 ) -> usize
-    requires key_in_bounds { at + 8 + length value.now + length key.now ≤ length region.old }
-    requires mark_bound { (mark < 2 ^ 24) × (ns < 2 ^ 6) × (kind < 2 ^ 2) }
+    requires in_region { at + 8 + length value.now + length key.now ≤ length region.old }
+    requires in_range { (mark < 2 ^ 24) × (ns < 2 ^ 6) × (kind < 2 ^ 2) }
     ensures { (region.new ≡ over region.old at (covered_of mark (item kind ns key.now value.now))) × (result ≡ at + head_length kind + length value.now + length key.now) }
 {
     let word = entry::word_of(mark, ns, kind);
@@ -65,8 +67,8 @@ fn put_entry(
     key: &[u8],
     value: &[u8],
 ) -> usize
-    requires value_in_bounds { at + aligned (length_of kind (length key.now) (length value.now)) ≤ length region.old }
-    requires at_value { (at % 16 ≡ 0) × (ns < 2 ^ 6) × (kind < 2 ^ 2) }
+    requires in_region { at + aligned (length_of kind (length key.now) (length value.now)) ≤ length region.old }
+    requires in_range { (at % 16 ≡ 0) × (ns < 2 ^ 6) × (kind < 2 ^ 2) }
     ensures { (region.new ≡ over region.old at (encoded (mark_from seed at) (item kind ns key.now value.now))) × (result ≡ at + aligned (length_of kind (length key.now) (length value.now))) }
 {
     let mark = entry::mark_at(seed, at);

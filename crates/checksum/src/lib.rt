@@ -2,6 +2,8 @@
 //
 // Both public functions take any bytes and any state. What they answer is `crc_from` and `crc16` of
 // specs/Catalogue.antt, and nothing above this crate sees that there are tables.
+#![tactic(auto)]
+
 ghost use Rattle.std.specs.Prelude.{◌≡◌};
 ghost use Rattle.checksum.specs.Catalogue.{byte, crc_from, crc16};
 ghost use Rattle.checksum.specs.Table.{entries};

@@ -1,11 +1,7 @@
 -- No second grid, number or place fits the contract of the counts.
 -- Assumes nothing.
-use Prim.Native.Nat.{ℕ}
 use mathlib.Core.Path.{◌≡◌, sym, ◌∙◌}
-use Rattle.answers.specs.Answers.{Said}
 use Rattle.answers.specs.OneAnswer.{Agree}
-use Rattle.counts.specs.Grid.{Grid}
-use Rattle.counts.specs.Counts.{CountsOut}
 use Rattle.counts.proofs.count_entries.Kinds as count-entries-kinds
 use Rattle.counts.proofs.count_entries.Reads as count_entries
 

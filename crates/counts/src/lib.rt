@@ -5,6 +5,8 @@
 // The grid has a row for each type and in it a column for each namespace: `grid[kind][ns]`. It is
 // handed back whole, by value, so the number and the place of a refusal go into lent numbers: no
 // struct and no enum can hold an array of arrays and be proved by the prover's own walk.
+#![tactic(auto)]
+
 ghost use Rattle.std.specs.Prelude.{◌≡◌, ◌≤◌, length};
 ghost use Rattle.answers.specs.Limits.{largest_region};
 ghost use Rattle.entry.specs.Words.{mark_from};

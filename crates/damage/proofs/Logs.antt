@@ -85,7 +85,7 @@ module _ (mark : ℕ → ℕ) where
     unfolding sizes
     stand_split {p} [] js r = (none, subst (λ (k : ℕ). Stand mark s k js) (sym (add-zero p)) r)
     stand_split {p} (i ∷ is) js (more w r) =
-        let both = stand_split is js r in
+        let both = stand_split {p = p + size_of i} is js r in
         (more w both.0, subst (λ (k : ℕ). Stand mark s k js) (add_assoc p (size_of i) (sizes is)) both.1)
 
     -- the listing has an item that stands

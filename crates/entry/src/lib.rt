@@ -2,6 +2,8 @@
 //
 // These are building blocks of the read at a place, the appends and the walk. Those that look at
 // bytes ask of their caller that the bytes are there, and the prover holds every caller to that.
+#![tactic(auto)]
+
 ghost use Rattle.std.specs.Prelude.{◌≡◌, ◌+◌, ◌^◌, ◌<◌, ◌≤◌, length};
 ghost use Rattle.entry.specs.Words.{mark_from, seed_of, word_of, word_mark, word_namespace, word_kind};
 ghost use Rattle.entry.specs.Layout.{head_length, placed, sum_place, entry_at, agrees, intact};
@@ -20,7 +22,7 @@ pub const UNKNOWN: u64 = 3;
 
 // Where an entry stands: its line, its type, its namespace, the lengths and places of key and
 // value, and one past its checksum, not rounded up.
-#[derive(Drop)]
+#[derive(Clone, Copy)]
 pub struct Entry {
     pub offset: usize,
     pub kind: u64,

@@ -4,6 +4,8 @@
 // polynomial's square, fourth and eighth powers have four terms too, so a register of 32, 64 or 128
 // bits moves up by its own width with a few shifts, and the bytes that follow are added below.
 // Both public functions take any bytes, and answer what `checksum::update` and `checksum::hash` do.
+#![tactic(auto)]
+
 ghost use Rattle.std.specs.Prelude.{◌≡◌, ◌+◌, ◌*◌, ◌/◌, ◌%◌, ◌^◌, ◌<◌, ◌≤◌, length, drop};
 ghost use Rattle.std.specs.Int.Bits.{bit_xor};
 ghost use Rattle.checksum.specs.Catalogue.{byte, crc_from, crc16};

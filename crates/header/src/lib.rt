@@ -1,5 +1,7 @@
 // Document 01, the 4,096-byte file header: its reader and its writer, for the two versions that
 // document 02's request 10 has.
+#![tactic(auto)]
+
 ghost use Rattle.std.specs.Prelude.{◌≡◌};
 ghost use Rattle.header.specs.Header.{said_header, read_of, Writes};
 

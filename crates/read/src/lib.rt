@@ -1,6 +1,8 @@
 // Document 01, "Read at a place": the data entry at a place, of which a hint says how many bytes to
 // look at, with the type that was written (document 02, request 4). `read_at` is the public
 // operation, for a file of either version (request 10); the seeded one takes the mark's seed.
+#![tactic(auto)]
+
 ghost use Rattle.std.specs.Prelude.{◌≡◌};
 ghost use Rattle.entry.specs.Words.{mark_from};
 ghost use Rattle.read.specs.Reading.{view_of, parse_of, said_parsed, read_of, read_in, said};

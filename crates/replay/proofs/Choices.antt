@@ -22,7 +22,7 @@ module _ (cursor q : ℕ) where
     where
       by : (t : Bool) → leb cursor o ≡ t → (q ≡ o) ⊎ (listed q os ≡ true) → (listed q os ≡ true → listed q (at_or_above cursor os) ≡ true)
           → listed q (cond t (o ∷ at_or_above cursor os) (at_or_above cursor os)) ≡ true
-      by true t (inl same) rest = rw same (listed_first o (at_or_above cursor os))
+      by true t (inl same) rest = subst (λ (k : ℕ). listed q (k ∷ at_or_above cursor os) ≡ true) same (listed_first q (at_or_above cursor os))
       by true t (inr s) rest = listed_later q o (at_or_above cursor os) (rest s)
       by false t (inl same) rest = absurd (omega (arith, leb-false cursor o t, same))
       by false t (inr s) rest = rest s
@@ -36,7 +36,7 @@ module _ (cursor q : ℕ) where
 
       first : cursor ≤ o → (q ≡ o) ⊎ (listed q (at_or_above cursor os) ≡ true) → (listed q (at_or_above cursor os) ≡ true → (cursor ≤ q) × (listed q (o ∷ os) ≡ true))
           → (cursor ≤ q) × (listed q (o ∷ os) ≡ true)
-      first h (inl same) rest = (omega (arith, same), rw same (listed_first o os))
+      first h (inl same) rest = (omega (arith, same), subst (λ (k : ℕ). listed q (k ∷ os) ≡ true) same (listed_first q os))
       first h (inr s) rest = rest s
 
       by : (t : Bool) → leb cursor o ≡ t → listed q (cond t (o ∷ at_or_above cursor os) (at_or_above cursor os)) ≡ true

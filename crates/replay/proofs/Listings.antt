@@ -1,7 +1,7 @@
 -- What the tests of a list say: that an ordinal stands in it, and that two of its ordinals are equal. Neither looks at the list's order.
 -- Assumes nothing.
 use Prim.Native.Nat.{ℕ, zero, suc, ◌+◌, ◌<◌, ◌≤◌}
-use mathlib.Core.Path.{◌≡◌, refl, sym, ap, ◌∙◌}
+use mathlib.Core.Path.{◌≡◌, refl, sym, ap, ap₂, ◌∙◌}
 use mathlib.Core.Bool.{Bool, true, false, cond, ◌||◌, true≢false, false≢true}
 use mathlib.Core.Logic.{◌⊎◌, inl, inr}
 use mathlib.Core.List.{List, [], ◌∷◌, Permᴰ}
@@ -146,7 +146,7 @@ pub twins_any_order : {os os' : List ℕ} → Permᴰ os os' → twins os ≡ tw
 twins_any_order Permᴰ.nil = refl
 twins_any_order (Permᴰ.cons {a} {b} {l₁} {l₂} e d) = rw (e, listed_any_order b d, twins_any_order d) refl
 twins_any_order (Permᴰ.swap {a} {b} {a'} {b'} {l} e₁ e₂) =
-    rw (e₁, e₂, eqb_turned b' a') (pairs_swap (eqb a' b') (listed b' l) (listed a' l) (twins l))
+    ap₂ (λ (x y : ℕ). twins (x ∷ y ∷ l)) e₁ e₂ ∙ rw (eqb_turned b' a') (pairs_swap (eqb a' b') (listed b' l) (listed a' l) (twins l))
 twins_any_order (Permᴰ.trans d₁ d₂) = twins_any_order d₁ ∙ twins_any_order d₂
 
 pub length_any_order : {os os' : List ℕ} → Permᴰ os os' → length os ≡ length os'

@@ -1,6 +1,8 @@
 // Document 01, "Replay limits and start": which recovered entries are replayed, and the file at
 // which replay begins. Any numbers may come in; a length is added to another only once both are
 // known to be small.
+#![tactic(auto)]
+
 ghost use Rattle.std.specs.Prelude.{◌+◌, ◌<◌, cond, ◌≡◌, length, get_or, drop};
 ghost use Rattle.answers.specs.Numbers.{number_of_verdict};
 ghost use Rattle.replay.specs.Limits.{data_limits, tombstone_limits};

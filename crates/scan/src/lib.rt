@@ -3,6 +3,8 @@
 // a file of either version (document 02, request 10); the seeded walk takes the mark's seed. The
 // counted walk does the work of both and counts what it takes (request 8); the list step is that
 // walk for those that go through a whole region, as the durable end does.
+#![tactic(auto)]
+
 ghost use Rattle.std.specs.Prelude.{◌≡◌, ◌+◌, ◌^◌, ◌<◌, ◌≤◌, true, length};
 ghost use Rattle.answers.specs.Limits.{largest_region};
 ghost use Rattle.entry.specs.Words.{mark_from};
@@ -17,7 +19,7 @@ use answers::Refusal;
 use entry::Entry;
 use window::Held;
 
-#[derive(Drop)]
+#[derive(Clone, Copy)]
 pub enum Walked {
     Found(Entry),
     End,
@@ -27,14 +29,14 @@ pub enum Walked {
 }
 
 // Lines whose mark a walk compared, and bytes that it checksummed.
-#[derive(Drop)]
+#[derive(Clone, Copy)]
 pub struct Effort {
     pub lines: usize,
     pub bytes: usize,
 }
 
 // What a walk answers, what it took, and how far the window has come that it was lent.
-#[derive(Drop)]
+#[derive(Clone, Copy)]
 pub struct CountedWalk {
     pub walked: Walked,
     pub effort: Effort,
@@ -43,7 +45,7 @@ pub struct CountedWalk {
 
 // How far somebody has come who goes through a region from 0 on: the offset where the next step
 // begins, what was spent up to there, and the window.
-#[derive(Drop)]
+#[derive(Clone, Copy)]
 pub struct Passed {
     pub from: usize,
     pub effort: Effort,

@@ -1,6 +1,5 @@
--- No second answer fits a contract. These functions take borrowed structs or call one that does, so their contracts are read by a walk by hand and
--- not as a statement over plain values; each `-says` below holds the contract's own clause, as the prover reads it off the source, to the fact that
--- its `-only` is about: a weaker `ensures` would fail it.
+-- No second answer fits a contract. These functions take borrowed structs or call one that does; each `-says` below holds the contract's own clause,
+-- as the prover reads it off the source, to the fact that its `-only` is about: a weaker `ensures` would fail it.
 -- Assumes nothing.
 use Prim.Native.Nat.{ℕ}
 use mathlib.Core.Path.{◌≡◌, refl, sym, ◌∙◌}
@@ -13,6 +12,7 @@ use prog.Memory.{Memory}
 use prog.Routine.{Routine}
 use types.Logic.{Logic}
 use contract.Monad.{Fun, fact}
+use denote.MutBor.{MutBor}
 use denote.Ref.{Bor}
 use denote.Triple.Clauses.{at_exit}
 use Rattle.tracker.specs.declared.Slot.{Slot}
@@ -43,7 +43,7 @@ pub least_along_only : (slots : List Slot) (ordinal used : ℕ) (r r' : Least) �
 least_along_only slots ordinal used r r' a b = a ∙ sym b
 
 module _ {M : Type 1} {𝓤 : Ura M} (𝓛 : Logic 𝓤) (mem : Memory → SProp 𝓤) (run : Routine → Fun 𝓤) where
-  pub abandon_slot_says : (κ : Lft) (slot : Bor Slot) (number : ℕ) (after : Slot) (r : SlotAnswer)
+  pub abandon_slot_says : (κ : Lft) (slot : MutBor Slot) (number : ℕ) (after : Slot) (r : SlotAnswer)
       → (abandon-slot.clauses 𝓛 mem run (κ, tt) (slot, (number, tt))).ensures tt r (at_exit abandon-slot.ended (κ, tt) (slot, (number, tt)) (after, (tt, tt)))
       ≡ fact 𝓤 (SlotAbandoned slot.now number after r)
   abandon_slot_says κ slot number after r = refl

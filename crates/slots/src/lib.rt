@@ -1,7 +1,9 @@
 // Document 01, "Forms that must change": the abandon as a call that clears one lent slot in place,
 // and the cursor as a search along a lent run of slot records. Both answer by the definitions of
-// the tracker by value. Borrowed structs are proved by a walk by hand, so each form has a twin
-// with plain parameters below it: whoever calls that one needs no walk.
+// the tracker by value. Each form has a twin with plain parameters below it, for callers that have
+// a value and nothing to lend.
+#![tactic(auto)]
+
 ghost use Rattle.std.specs.Prelude.{◌≡◌};
 ghost use Rattle.tracker.specs.Least.{least_of};
 ghost use Rattle.slots.specs.Slots.{SlotAbandoned};
@@ -15,6 +17,7 @@ pub enum SlotAnswer {
 }
 
 // The slot becomes idle if it has that number and the number isn't 0; only its number changes.
+#[tactic(auto, unfolding(tracker::specs::Finishing::matches, tracker::specs::Finishing::slot_after))]
 pub fn abandon_slot(slot: &mut Slot, number: u64) -> SlotAnswer
     ensures { SlotAbandoned slot.old number slot.new result }
 {

@@ -13,7 +13,6 @@ use Rattle.entry.specs.Layout.{head_length, length_of, placed, entry_at, agrees,
 use Rattle.scan.specs.Walk.{trial, walk_lines, walk_from, walk}
 use Rattle.scan.specs.Listing.{list_most, list}
 use Rattle.scan.specs.Efforts.{summed, lines_at, bytes_at, counted_lines, counted_from, counted_walk, walks_effort, list_effort}
-use Rattle.scan.specs.declared.Effort.{Effort}
 use Rattle.scan.proofs.Counting.{taking}
 use Rattle.tail.specs.Tail.{durable, durable_of}
 use Rattle.tail.specs.Efforts.{effort_of, effort_in}

@@ -2,6 +2,8 @@
 // `used_bound` and `durable_end` are the public operations, the second for a file of either version
 // (document 02, request 10); the seeded one takes the mark's seed. The durable end tells beside its
 // answer how many lines were tried and how many bytes checksummed (request 8).
+#![tactic(auto)]
+
 ghost use Rattle.std.specs.Prelude.{◌≡◌};
 ghost use Rattle.entry.specs.Words.{mark_from};
 ghost use Rattle.tail.specs.Tail.{said_used, used_of, said_durable, durable_of, durable_in};

@@ -2,6 +2,8 @@
 // they stand behind their pointers, and go back as they are to be stored, with document 01's number
 // beside them, 0 for accepted. A refusal hands both back as they came. `locker` has one straight
 // line for each of these: read, call, store.
+#![tactic(auto)]
+
 ghost use Rattle.std.specs.Prelude.{◌≡◌};
 ghost use Rattle.answers.specs.Answers.{number_said};
 ghost use Rattle.tracker.specs.Finishing.{said_finish};

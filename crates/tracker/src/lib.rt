@@ -3,6 +3,8 @@
 // back; any value and any numbers may come in. What is right stands in specs/, file by file as the
 // operations are named here. Loops stand in helpers on lent arrays, because a helper that takes
 // the whole value would copy its five kilobytes at each call.
+#![tactic(auto)]
+
 ghost use Rattle.std.specs.Prelude.{◌≡◌, Bool, true, not, ◌&&◌, ◌||◌, ℕ, ◌+◌, ◌*◌, ◌≤◌, ◌<◌, List, get_or, length, ltb, leb, eqb, ℤ, pos};
 ghost use Rattle.answers.specs.Numbers.{number_of_verdict};
 ghost use Rattle.answers.specs.Answers.{first_of};
@@ -21,7 +23,7 @@ use answers::{Refusal, Verdict};
 
 // A reservation's number, and the place that it holds. Number 0 is idle.
 #[repr(C)]
-#[derive(Drop)]
+#[derive(Clone, Copy)]
 pub struct Slot {
     pub number: u64,
     pub ordinal: u64,
@@ -31,7 +33,7 @@ pub struct Slot {
 // Shard s waits at the places from 32 * s of the two flat arrays, as many as lengths[s] says, in
 // the order of their numbers. What lies past a queue's length is no state.
 #[repr(C)]
-#[derive(Drop)]
+#[derive(Clone, Copy)]
 pub struct Tracker {
     pub slots: [Slot; 16],
     pub numbers: [u64; 512],
@@ -42,6 +44,7 @@ pub struct Tracker {
 
 // ---- fresh
 
+#[tactic(auto, unfolding(crate::specs::State::view, crate::specs::State::queue_of))]
 pub fn fresh() -> Tracker
     ensures { view result ≡ fresh_state }
 {
@@ -109,6 +112,7 @@ fn head_sound(count: usize, held: u64, next: u64) -> bool
     held < next
 }
 
+#[tactic(auto, using(crate::proofs::Sounds::sound_zero))]
 pub fn is_sound(tracker: Tracker) -> bool
     ensures { result ≡ sound (view tracker) }
 {
@@ -184,6 +188,7 @@ pub struct AfterReserve {
 
 // The refusals of reserve in the table's order. The sum of used count and length is never made
 // before it is known to fit.
+#[tactic(auto, unfolding(crate::specs::Reserving::reserve_tests))]
 fn reserve_verdict(
     soundness: bool,
     shard: usize,
@@ -285,6 +290,7 @@ pub struct AfterRecord {
 }
 
 // The refusals of record in the table's order. An open slot needs a place in the queue for itself.
+#[tactic(auto, unfolding(crate::specs::Recording::record_tests))]
 fn record_verdict(soundness: bool, shard: usize, next: u64, waiting: usize, held: u64) -> Verdict
     ensures { number_of_verdict result ≡ first_of (record_tests soundness shard next waiting held) }
 {
@@ -334,7 +340,7 @@ pub fn record(tracker: Tracker, shard: usize, delta: i8) -> AfterRecord
 
 // ---- complete and abandon
 
-#[derive(Drop)]
+#[derive(Clone, Copy)]
 pub enum FinishAnswer {
     Done,
     Stale,
@@ -348,6 +354,7 @@ pub struct AfterFinish {
 }
 
 // The refusals of complete and of abandon.
+#[tactic(auto, unfolding(crate::specs::Finishing::finish_tests))]
 fn finish_verdict(soundness: bool, shard: usize) -> Verdict
     ensures { number_of_verdict result ≡ first_of (finish_tests soundness shard) }
 {
@@ -477,6 +484,7 @@ pub struct Least {
 }
 
 // The first place lies before the second.
+#[tactic(auto, unfolding(crate::specs::Least::before))]
 pub fn earlier(ordinal: u64, offset: u64, ordinal2: u64, offset2: u64) -> bool
     ensures { result ≡ before ordinal offset ordinal2 offset2 }
 {
@@ -489,6 +497,7 @@ pub fn earlier(ordinal: u64, offset: u64, ordinal2: u64, offset2: u64) -> bool
     offset < offset2
 }
 
+#[tactic(auto, unfolding(crate::specs::Least::lesser_of))]
 pub fn lesser(a: u64, b: u64) -> u64
     ensures { result ≡ lesser_of a b }
 {
@@ -499,6 +508,7 @@ pub fn lesser(a: u64, b: u64) -> u64
 }
 
 // One slot more is looked at.
+#[tactic(auto, unfolding(crate::specs::Least::step_of))]
 pub fn step(least: Least, slot: Slot) -> Least
     ensures { result ≡ step_of least slot }
 {

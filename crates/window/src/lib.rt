@@ -3,6 +3,8 @@
 // The window has the registers of the bytes from its base on, one for every 256 bytes, and beside
 // them stand the powers of x ^ 2048. Both are lent by the caller, who keeps between calls where the
 // window begins and how many of its registers are there.
+#![tactic(auto)]
+
 ghost use Rattle.std.specs.Prelude.{◌≡◌, ◌+◌, ◌-◌, ◌*◌, ◌/◌, ◌<◌, ◌≤◌, length, take, drop};
 ghost use Rattle.checksum.specs.Catalogue.{step, crc16};
 ghost use Rattle.window.specs.Windows.{Powers, Keeps, Reaches, Times};
@@ -15,14 +17,14 @@ pub const APART: usize = 256;
 const POWER: u16 = 64848;
 
 // Where the window begins, and how many of its registers are there: none before it is opened.
-#[derive(Drop)]
+#[derive(Clone, Copy)]
 pub struct Held {
     pub base: usize,
     pub count: usize,
 }
 
 // A sum, and where the window stands after it.
-#[derive(Drop)]
+#[derive(Clone, Copy)]
 pub struct Summed {
     pub sum: u16,
     pub held: Held,

@@ -1,0 +1,16 @@
+-- `tracker::push`: the law of one entry more.
+-- Assumes nothing.
+use Rattle.std.proofs.Common.{◌≡◌, length, rules}
+use mir.Facts.{to_z-of_z}
+use mir.Syntax.{w8}
+use Rattle.tracker.proofs.Views.{push_law}
+use Rattle.tracker.proofs.push.Goals as goal
+
+pub returns : goal.returns
+returns c =
+    let t = c.args.tracker in
+    let ln : length t.numbers ≡ 512 = search rules in
+    let ld : length t.deltas ≡ 512 = search rules in
+    let ll : length t.lengths ≡ 16 = search rules in
+    rw (to_z-of_z {w = w8} c.ranges.delta)
+    (push_law t c.requires.0 ln ld ll c.args.s c.requires.1.0 c.requires.1.1 c.args.number c.args.delta)
