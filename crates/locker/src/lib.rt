@@ -3,6 +3,8 @@
 // of an answer go into out parameters. Each function answers document 01's number, 0 for accepted,
 // and on a refusal leaves every out parameter and every lent byte as it was, but for the place that
 // goes with 10, and the effort of a durable end that meets it.
+#![tactic(auto)]
+
 ghost use Rattle.std.specs.Prelude.{◌≡◌, true, [], length};
 ghost use Rattle.answers.specs.Answers.{afterwards, number_said, value_out, place_out};
 ghost use Rattle.fields.specs.Runs.{over};
@@ -323,8 +325,7 @@ pub extern "C" fn locker_start_file(
 // ---- the tracker
 //
 // Each call reads the tracker and the out parameter behind their pointers, has `told` work on the
-// values, and stores what it hands back. A pointer to a struct takes a proof by hand, a walk along
-// these few lines; what the walks share stands in proofs/Behind.antt.
+// values, and stores what it hands back.
 
 #[unsafe(no_mangle)]
 pub extern "C" fn locker_tracker_fresh(t: &mut Tracker) -> u32

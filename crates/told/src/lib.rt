@@ -17,7 +17,7 @@ use tracker::{
 
 // What an accepted reserve tells: its number, its place, and the used count afterwards.
 #[repr(C)]
-#[derive(Drop)]
+#[derive(Clone, Copy)]
 pub struct Reserved {
     pub number: u64,
     pub place: u64,
@@ -26,7 +26,7 @@ pub struct Reserved {
 
 // What an accepted checkpoint tells. `pending` is 1 or 0.
 #[repr(C)]
-#[derive(Drop)]
+#[derive(Clone, Copy)]
 pub struct Progress {
     pub ordinal: u64,
     pub offset: u64,
