@@ -44,8 +44,8 @@ fn count_in(grid: [[u32; 64]; 3], kind: usize, ns: usize) -> u64
 
 fn column_of(grid: [[u32; 64]; 3], ns: usize) -> Column
     requires { ns < 64 }
-    ensures inserts_value { (result.inserts ≡ cell grid 0 ns) × (result.updates ≡ cell grid 1 ns) × (result.tombstones ≡ cell grid 2 ns) }
-    ensures tombstones_bound { result.inserts + result.updates + result.tombstones < 12884901888 }
+    ensures cells { (result.inserts ≡ cell grid 0 ns) × (result.updates ≡ cell grid 1 ns) × (result.tombstones ≡ cell grid 2 ns) }
+    ensures bounded { result.inserts + result.updates + result.tombstones < 12884901888 }
 {
     Column {
         inserts: count_in(grid, 0, ns),
