@@ -82,6 +82,7 @@ fn put_entry(
 }
 
 // The refusals in their order, before anything is written.
+#[tactic(auto, unfolding(crate::specs::Append::append_refusal, crate::specs::Append::append_tests, entry::specs::Layout::length_of))]
 fn check(
     capacity: usize,
     used: usize,

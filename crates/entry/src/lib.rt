@@ -35,6 +35,7 @@ pub struct Entry {
 }
 
 // The seed of a file's marks: version 2 adds the ordinal modulo 2^24 to version 1's.
+#[tactic(auto, unfolding(crate::specs::Words::seed_of))]
 pub fn seed_of(version: u64, ordinal: u64) -> u32
     ensures { result ≡ seed_of version ordinal }
 {

@@ -261,6 +261,7 @@ pub extern "C" fn locker_durable_end(
 
 // The entries of each type in each namespace, where the answer is 0: `grid[kind][ns]`.
 #[unsafe(no_mangle)]
+#[tactic(auto, using(crate::proofs::Grids::grid_left))]
 pub extern "C" fn locker_count_entries(
     region: &[u8],
     version: u64,

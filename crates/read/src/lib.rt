@@ -24,6 +24,7 @@ pub enum Parsed {
 }
 
 // The data entry that begins with the view's first byte. The checksum is tested before the type.
+#[tactic(auto, unfolding(crate::specs::Reading::parse_of, crate::specs::Reading::parse_tests, crate::specs::Reading::view_sum, crate::specs::Reading::fields_of))]
 fn parse(view: &[u8], mark: u64) -> Parsed
     ensures { said_parsed result ≡ parse_of mark view.now }
 {
@@ -63,6 +64,7 @@ fn view_of(region: &[u8], p: usize, hint: usize) -> &[u8]
     &region[p..]
 }
 
+#[tactic(auto, unfolding(crate::specs::Reading::read_of))]
 pub fn seeded_read_at(region: &[u8], seed: u32, p: usize, hint: usize) -> Reading
     ensures { said result ≡ read_of (mark_from seed) region.now p hint }
 {

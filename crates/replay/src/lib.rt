@@ -12,6 +12,7 @@ ghost use Rattle.replay.specs.Choice.{Suits};
 use answers::{Refusal, Verdict};
 
 // The limits of a data entry. Refusals 3, 11, 12, 13.
+#[tactic(auto, unfolding(crate::specs::Limits::data_limits))]
 pub fn check_data(klen: usize, vlen: usize, maximum: usize) -> Verdict
     ensures { number_of_verdict result ≡ data_limits klen vlen maximum }
 {
@@ -31,6 +32,7 @@ pub fn check_data(klen: usize, vlen: usize, maximum: usize) -> Verdict
 }
 
 // The limits of a tombstone. Refusals 3, 11, 13.
+#[tactic(auto, unfolding(crate::specs::Limits::tombstone_limits))]
 pub fn check_tombstone(klen: usize, maximum: usize) -> Verdict
     ensures { number_of_verdict result ≡ tombstone_limits klen maximum }
 {
@@ -98,6 +100,7 @@ fn starts_before(first: u64, second: u64, cursor: u64) -> bool
 
 // The file at which replay begins, by its place in the list as given, whatever the list's order.
 // Refusals 18, 22.
+#[tactic(auto, using(crate::proofs::Starts::start_many, crate::proofs::Starts::start_equal, crate::proofs::Starts::start_nothing))]
 pub fn start_file(ordinals: &[u64], cursor: u64) -> StartAnswer
     ensures { said_start result ≡ start_of ordinals.now cursor }
 {

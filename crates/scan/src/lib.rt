@@ -262,6 +262,7 @@ pub fn list_step(
     counted_walk(region, seed, bound, from, effort, registers, powers, held)
 }
 
+#[tactic(auto, unfolding(crate::specs::Walk::walk_of))]
 pub fn seeded_walk(region: &[u8], seed: u32, bound: usize, offset: usize) -> Walked
     ensures { said result ≡ walk_of (mark_from seed) region.now bound offset }
 {

@@ -10,14 +10,6 @@ use Rattle.read.specs.Reading.{view_of, parse_of, said_parsed, at, read_of}
 use Rattle.read.proofs.Views.{view_room}
 use Rattle.read.proofs.seeded_read_at.Goals as goal
 
-pub returns-then-region-gt-LARGEST_REGION : goal.returns-then-region-gt-LARGEST_REGION
-unfolding read_of
-returns-then-region-gt-LARGEST_REGION c = simp (lt-ltb _ _ c.if-region-gt-LARGEST_REGION.true)
-
-pub returns-then-p-ne0 : goal.returns-then-p-ne0
-unfolding read_of
-returns-then-p-ne0 c = simp (le-ltb _ _ c.if-region-gt-LARGEST_REGION.false, ne_eqb _ _ c.if-p-ne0.true)
-
 pub placed-requires : goal.placed-requires
 placed-requires c =
     let parsed : let a = c.args in said_parsed c.parse-parsed.result ≡ parse_of (mark_from a.seed a.p) (view_of a.region.now a.p a.hint) =

@@ -4,18 +4,9 @@ use Prim.Native.Nat.{◌+◌}
 use mathlib.Core.Path.{sym, subst, ◌∙◌}
 use native.Mathlib.Omega.{arith}
 use Rattle.replay.proofs.Choices.{Kept, kept_first, kept_on, kept_new, first_suits, second_suits}
-use Rattle.replay.proofs.Starts.{start_many, start_equal, start_nothing, start_found_lem}
+use Rattle.replay.proofs.Starts.{start_found_lem}
 use Rattle.replay.proofs.start_file.Goals as goal
 use Rattle.replay.proofs.start_file.Goals.{then-starts_before, else-starts_before}
-
-pub returns-then-ordinals-gt64 : goal.returns-then-ordinals-gt64
-returns-then-ordinals-gt64 c = start_many _ _ c.if-ordinals-gt64.true
-
-pub returns-then-has_twins : goal.returns-then-has_twins
-returns-then-has_twins c = start_equal _ _ c.if-ordinals-gt64.false (sym c.has_twins.ensures ∙ c.if-has_twins.true)
-
-pub returns-then-ordinals-eq0 : goal.returns-then-ordinals-eq0
-returns-then-ordinals-eq0 c = start_nothing _ _ c.if-ordinals-gt64.false (sym c.has_twins.ensures ∙ c.if-has_twins.false) c.if-ordinals-eq0.true
 
 pub loop-i-init : goal.loop-i-init
 loop-i-init c = (kept_first _ _, omega arith)

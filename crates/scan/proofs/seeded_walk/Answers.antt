@@ -11,14 +11,6 @@ use Rattle.scan.proofs.Walks.{walk_of_accepted}
 use Rattle.scan.proofs.Counting.{counted_answer}
 use Rattle.scan.proofs.seeded_walk.Goals as goal
 
-pub returns-then-region-gt-LARGEST_REGION : goal.returns-then-region-gt-LARGEST_REGION
-unfolding walk_of
-returns-then-region-gt-LARGEST_REGION c = simp (lt-ltb _ _ c.if-region-gt-LARGEST_REGION.true)
-
-pub returns-then-region-bound : goal.returns-then-region-bound
-unfolding walk_of
-returns-then-region-bound c = simp (le-ltb _ _ c.if-region-gt-LARGEST_REGION.false, lt-ltb _ _ c.if-region-bound.true)
-
 -- no window is lent, so there is nothing to be right about it
 pub counted_walk-counted-requires : goal.counted_walk-counted-requires
 counted_walk-counted-requires c = (omega arith, omega arith, omega arith, omega arith, keeps_none _ _ _ _)
