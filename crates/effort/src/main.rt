@@ -4,23 +4,31 @@
 //
 // After 1, 2 or 3 the `refused` line is the only one. With 10 the counts go up to and including the
 // refused line.
+#![tactic(auto)]
+
 ghost use Rattle.std.specs.Prelude.{◌≡◌, ◌+◌, ◌*◌, ◌/◌, ◌≤◌, length};
 
 use card::{write, write_end, write_number};
 use header::HeaderRead;
-use libc::STDIN_FILENO;
+use std::io;
 use tail::{DurableEnd, UsedBound};
 
 // A count beside its bound, and in words what that bound is. No count is ever written beside a bound
 // that it exceeds: callers prove that it doesn't.
-fn write_count(name: &[u8], count: usize, most: usize, rule: &[u8])
+fn write_count(
+    out: &impl Print,
+    name: &[u8],
+    count: usize,
+    most: usize,
+    rule: &[u8],
+) -> io::Result<()>
     requires { count ≤ most }
 {
-    write(name);
-    write_number(count);
-    write(b" of at most ");
-    write_number(most);
-    write(rule);
+    write(out, name)?;
+    write_number(out, count)?;
+    write(out, b" of at most ")?;
+    write_number(out, most)?;
+    write(out, rule)
 }
 
 // "Lines tried are at most the bound divided by 16, rounded up"
@@ -40,55 +48,64 @@ fn most_bytes(lines: usize) -> usize
 }
 
 // What the durable end up to the bound takes, and the end.
-fn report_effort(region: &[u8], version: u64, ordinal: u64, bound: usize)
+fn report_effort(
+    out: &impl Print,
+    region: &[u8],
+    version: u64,
+    ordinal: u64,
+    bound: usize,
+) -> io::Result<()>
     requires { bound ≤ 1048576 }
 {
     let counted = tail::durable_end(region, version, ordinal, bound);
     let end = counted.end;
     let effort = counted.effort;
-    write(b"used bound ");
-    write_number(bound);
+    write(out, b"used bound ")?;
+    write_number(out, bound)?;
     write_count(
+        out,
         b"\nlines tried ",
         effort.lines,
         most_lines(bound),
         b", the bound divided by 16 and rounded up",
-    );
+    )?;
     write_count(
+        out,
         b"\nbytes checksummed ",
         effort.bytes,
         most_bytes(effort.lines),
         b", 131078 for each line tried\n",
-    );
-    write_end(end);
+    )?;
+    write_end(out, end)
 }
 
-fn report_data(region: &[u8], version: u64, ordinal: u64)
+fn report_data(out: &impl Print, region: &[u8], version: u64, ordinal: u64) -> io::Result<()>
     requires { length region.now ≤ 1048576 }
 {
     let used = tail::used_bound(region);
     match used {
-        UsedBound::Bound(bound) => report_effort(region, version, ordinal, bound),
-        UsedBound::Refused(refusal) => write_end(DurableEnd::Refused(refusal)),
+        UsedBound::Bound(bound) => report_effort(out, region, version, ordinal, bound),
+        UsedBound::Refused(refusal) => write_end(out, DurableEnd::Refused(refusal)),
     }
 }
 
-fn report_card(card: &[u8])
+fn report_card(out: &impl Print, card: &[u8]) -> io::Result<()>
     requires { length card.now ≤ 1052672 }
 {
     let read = header::read_header(card);
     match read {
         HeaderRead::Header { version, ordinal } => {
-            report_data(&card[header::HEADER_LENGTH..], version, ordinal)
+            report_data(out, &card[header::HEADER_LENGTH..], version, ordinal)
         }
-        HeaderRead::Refused(refusal) => write_end(DurableEnd::Refused(refusal)),
+        HeaderRead::Refused(refusal) => write_end(out, DurableEnd::Refused(refusal)),
     }
 }
 
-fn main() {
+fn main(rt: HostRuntime) -> io::Result<()> {
     let mut room = card::room();
-    let n = io::read_full(STDIN_FILENO, &mut room);
-    if card::is_whole(n, room.len(), b"effort") {
-        report_card(&room[..n]);
+    let n = card::read_full(&mut rt.stdin(), &mut room);
+    if card::is_whole(&rt, n, room.len(), b"effort")? {
+        report_card(&rt, &room[..n])?;
     }
+    Ok(())
 }

@@ -3,6 +3,7 @@ use crate::cursor::Cursor;
 use crate::judge::{Record, Recorded};
 use crate::said::Said;
 use crate::{cursor, judge, said};
+use std::io;
 
 // The recorder's own limit on a region.
 const LONGEST_RUN: usize = 70000;
@@ -226,6 +227,7 @@ fn whole_run(operation: u64, length: usize, end: Cursor) -> Cursor {
 
 // Asks, and holds what was answered and left to what is recorded.
 fn agrees(
+    rt: &impl Print,
     file: &[u8],
     n: &[u8],
     record: Record,
@@ -235,14 +237,19 @@ fn agrees(
     key: &[u8],
     value: &[u8],
     expected: &[u8],
-) -> bool {
+) -> io::Result<bool> {
     let answered = call_in(record.operation, n, region, length, key, value);
-    let said = judge::same_said(file, record, recorded, answered);
-    let bytes = judge::same_bytes(record, expected, run_in(region, length));
-    said && bytes
+    let said = judge::same_said(rt, file, record, recorded, answered)?;
+    let bytes = judge::same_bytes(rt, record, expected, run_in(region, length))?;
+    Ok(said && bytes)
 }
 
-pub fn replay(file: &[u8], numbers: Cursor, record: Record) -> Replayed {
+pub fn replay(
+    rt: &impl Print,
+    file: &[u8],
+    numbers: Cursor,
+    record: Record,
+) -> io::Result<Replayed> {
     let operation = record.operation;
     let size = numbers_length(operation);
     let count = runs(operation);
@@ -260,16 +267,17 @@ pub fn replay(file: &[u8], numbers: Cursor, record: Record) -> Replayed {
     let past = read_changes(file, recorded.next, &mut expected, region_length);
     let end = whole_run(operation, region_length, past);
     if end.fault != cursor::NO_FAULT {
-        return Replayed {
+        return Ok(Replayed {
             next: end,
             agreed: false,
-        };
+        });
     }
     let n = cursor::part(file, numbers.at, size);
     let key_run = run_in(&key, length(1 < count, file, second));
     let value_run = run_in(&value, length(2 < count, file, third));
     let right_run = run_in(&expected, region_length);
     let agreed = agrees(
+        rt,
         file,
         n,
         record,
@@ -279,9 +287,9 @@ pub fn replay(file: &[u8], numbers: Cursor, record: Record) -> Replayed {
         key_run,
         value_run,
         right_run,
-    );
-    Replayed {
+    )?;
+    Ok(Replayed {
         next: end,
         agreed: agreed,
-    }
+    })
 }

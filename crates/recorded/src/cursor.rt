@@ -30,7 +30,7 @@ pub const BYTES_AFTER_END: u64 = 13;
 
 pub const NO_GRID: u64 = 14;
 
-#[derive(Drop)]
+#[derive(Clone, Copy)]
 pub struct Cursor {
     pub at: usize,
     pub fault: u64,

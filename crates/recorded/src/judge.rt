@@ -2,25 +2,24 @@
 use crate::cursor::Cursor;
 use crate::said::Said;
 use crate::{cursor, said};
-use libc::STDOUT_FILENO;
+use std::io;
 
-#[derive(Drop)]
+#[derive(Clone, Copy)]
 pub struct Record {
     pub index: usize,
     pub operation: u64,
 }
 
-pub fn write(text: &[u8]) {
-    io::write_all(STDOUT_FILENO, text);
+pub fn write(rt: &impl Print, text: &str) -> io::Result<()> {
+    rt.print(text)
 }
 
 // A number and the words before it.
-pub fn number(before: &[u8], n: u64) {
-    write(before);
-    io::print_decimal(STDOUT_FILENO, n);
+pub fn number(rt: &impl Print, before: &str, n: u64) -> io::Result<()> {
+    print!(rt; "{before}{n}")
 }
 
-pub fn write_name(operation: u64) {
+pub fn write_name(rt: &impl Print, operation: u64) -> io::Result<()> {
     let names = b"all             \
         checksum        \
         header-reader   \
@@ -45,35 +44,50 @@ pub fn write_name(operation: u64) {
         start-file      \
         count-entries   ";
     if operation < 23 {
-        write(cursor::part(names, operation as usize * 16, 16));
+        rt.write_all(cursor::part(names, operation as usize * 16, 16))?;
     }
+    Ok(())
 }
 
 // Stands for the place of a part that is the only one of its kind.
 pub const ONLY: usize = 1000000000;
 
-fn write_difference(record: Record, what: &[u8], place: usize, expected: u64, answered: u64) {
-    number(b"record ", record.index as u64);
-    write(b" ");
-    write_name(record.operation);
-    write(b" ");
-    write(what);
+fn write_difference(
+    rt: &impl Print,
+    record: Record,
+    what: &str,
+    place: usize,
+    expected: u64,
+    answered: u64,
+) -> io::Result<()> {
+    number(rt, "record ", record.index as u64)?;
+    write(rt, " ")?;
+    write_name(rt, record.operation)?;
+    write(rt, " ")?;
+    write(rt, what)?;
     if place < ONLY {
-        number(b" ", place as u64);
+        number(rt, " ", place as u64)?;
     }
-    number(b": expected ", expected);
-    number(b", but was ", answered);
-    write(b"\n");
+    number(rt, ": expected ", expected)?;
+    number(rt, ", but was ", answered)?;
+    write(rt, "\n")
 }
 
 // Whether a part of the answer, or of what the call left, is as recorded. Parts of a kind are
 // counted from 0.
-pub fn same(record: Record, what: &[u8], place: usize, expected: u64, answered: u64) -> bool {
+pub fn same(
+    rt: &impl Print,
+    record: Record,
+    what: &str,
+    place: usize,
+    expected: u64,
+    answered: u64,
+) -> io::Result<bool> {
     if expected == answered {
-        return true;
+        return Ok(true);
     }
-    write_difference(record, what, place, expected, answered);
-    false
+    write_difference(rt, record, what, place, expected, answered)?;
+    Ok(false)
 }
 
 // ---- number and values
@@ -107,52 +121,71 @@ pub fn read_answer(file: &[u8], c: Cursor) -> Recorded {
 }
 
 // Whether each value is the one that is recorded; the first that isn't has a line.
-fn same_values(record: Record, values: &[u8], count: usize, answered: Said) -> bool {
+fn same_values(
+    rt: &impl Print,
+    record: Record,
+    values: &[u8],
+    count: usize,
+    answered: Said,
+) -> io::Result<bool> {
     let mut i = 0;
     while i < count {
         let right = cursor::listed(values, i);
-        if !same(record, b"value", i, right, said::value_of(answered, i)) {
-            return false;
+        if !same(rt, record, "value", i, right, said::value_of(answered, i))? {
+            return Ok(false);
         }
         i += 1;
     }
-    true
+    Ok(true)
 }
 
-pub fn same_said(file: &[u8], record: Record, recorded: Recorded, answered: Said) -> bool {
-    let number = same(record, b"number", ONLY, recorded.number, answered.number);
+pub fn same_said(
+    rt: &impl Print,
+    file: &[u8],
+    record: Record,
+    recorded: Recorded,
+    answered: Said,
+) -> io::Result<bool> {
+    let number = same(rt, record, "number", ONLY, recorded.number, answered.number)?;
     let count = recorded.count;
     let many = same(
+        rt,
         record,
-        b"count of values",
+        "count of values",
         ONLY,
         count as u64,
         answered.count as u64,
-    );
+    )?;
     let values = cursor::part(file, recorded.values, recorded.length);
-    let each = same_values(record, values, count, answered);
-    number && many && each
+    let each = same_values(rt, record, values, count, answered)?;
+    Ok(number && many && each)
 }
 
 // ---- bytes
 
 // Whether the bytes that were lent are as recorded, all of them; the first that isn't has a line.
-pub fn same_bytes(record: Record, expected: &[u8], left: &[u8]) -> bool {
-    if check::same(expected, left) {
-        return true;
+pub fn same_bytes(
+    rt: &impl Print,
+    record: Record,
+    expected: &[u8],
+    left: &[u8],
+) -> io::Result<bool> {
+    if expected == left {
+        return Ok(true);
     }
     let mut i = 0;
     while i < expected.len() {
         if !same(
+            rt,
             record,
-            b"byte",
+            "byte",
             i,
             cursor::byte(expected, i),
             cursor::byte(left, i),
-        ) {
-            return false;
+        )? {
+            return Ok(false);
         }
         i += 1;
     }
-    false
+    Ok(false)
 }

@@ -2,6 +2,8 @@
 // proved operations. Reads the file from standard input, and writes a line for each part of a record
 // that differs, a line for each operation, how many of its records were replayed and how many agreed,
 // and as the last line the verdict.
+#![tactic(auto)]
+
 mod calls;
 mod cursor;
 mod judge;
@@ -10,11 +12,12 @@ mod trackers;
 
 use cursor::Cursor;
 use judge::Record;
-use libc::STDIN_FILENO;
+use std::io;
+use std::io::Read;
 use tracker::Tracker;
 
 // The recorded file has to stay below this.
-const LARGEST_FILE: usize = 360000;
+const LARGEST_FILE: u64 = 360000;
 
 // The bytes of LOCKREC1, the first lowest.
 const SIGNATURE: u64 = 0x3143_4552_4B43_4F4C;
@@ -81,61 +84,71 @@ fn past_operation(file: &[u8], c: Cursor, operation: u64) -> Cursor {
     next
 }
 
-fn replay_record(file: &[u8], index: usize, before: Progress) -> Progress {
+fn replay_record(
+    rt: &impl Print,
+    file: &[u8],
+    index: usize,
+    before: Progress,
+) -> io::Result<Progress> {
     let c = before.cursor;
     let state = before.tracker;
     let tally = before.tally;
     let operation = cursor::byte(file, c.at);
     let start = past_operation(file, c, operation);
     if start.fault != cursor::NO_FAULT {
-        return reached(start, state, tally);
+        return Ok(reached(start, state, tally));
     }
     let record = Record {
         index: index,
         operation: operation,
     };
     if 10 <= operation && operation <= 18 {
-        let after = trackers::replay(file, start, record, state);
-        return gone_on(after.next, after.tracker, tally, operation, after.agreed);
+        let after = trackers::replay(rt, file, start, record, state)?;
+        return Ok(gone_on(after.next, after.tracker, tally, operation, after.agreed));
     }
-    let replayed = calls::replay(file, start, record);
-    gone_on(replayed.next, state, tally, operation, replayed.agreed)
+    let replayed = calls::replay(rt, file, start, record)?;
+    Ok(gone_on(replayed.next, state, tally, operation, replayed.agreed))
 }
 
-fn replay_records(file: &[u8], count: usize, start: Cursor) -> Progress {
+fn replay_records(
+    rt: &impl Print,
+    file: &[u8],
+    count: usize,
+    start: Cursor,
+) -> io::Result<Progress> {
     let mut progress = reached(start, tracker::fresh(), [0; 46]);
     let mut index = 0;
     while index < count {
-        progress = replay_record(file, index, progress);
+        progress = replay_record(rt, file, index, progress)?;
         let c = progress.cursor;
         if c.fault != cursor::NO_FAULT {
-            return progress;
+            return Ok(progress);
         }
         index += 1;
     }
-    progress
+    Ok(progress)
 }
 
 // ---- what is written
 
-fn write_line(operation: u64, replayed: u64, agreed: u64) {
-    judge::write_name(operation);
-    judge::number(b" ", replayed);
-    judge::number(b" ", agreed);
-    judge::write(b"\n");
+fn write_line(rt: &impl Print, operation: u64, replayed: u64, agreed: u64) -> io::Result<()> {
+    judge::write_name(rt, operation)?;
+    judge::number(rt, " ", replayed)?;
+    judge::number(rt, " ", agreed)?;
+    judge::write(rt, "\n")
 }
 
-fn write_table(tally: Tally) {
+fn write_table(rt: &impl Print, tally: Tally) -> io::Result<()> {
     let mut i: usize = 1;
     while i < 23 {
-        write_line(i as u64, tally[i], tally[i + 23]);
+        write_line(rt, i as u64, tally[i], tally[i + 23])?;
         i += 1;
     }
-    write_line(0, tally[0], tally[23]);
+    write_line(rt, 0, tally[0], tally[23])
 }
 
 // The last line where the file isn't what it should be. Records are counted from 0.
-fn write_malformed(record: u64, c: Cursor) {
+fn write_malformed(rt: &impl Print, record: u64, c: Cursor) -> io::Result<()> {
     let faults = b"nothing                              \
         the file has 360,000 bytes or more   \
         the file doesn't begin with LOCKREC1 \
@@ -151,22 +164,21 @@ fn write_malformed(record: u64, c: Cursor) {
         the end mark is missing              \
         bytes follow the end mark            \
         a grid hasn't 768 bytes              ";
-    judge::number(b"malformed: record ", record);
-    judge::number(b", byte ", c.at as u64);
-    judge::write(b": ");
+    judge::number(rt, "malformed: record ", record)?;
+    judge::number(rt, ", byte ", c.at as u64)?;
+    judge::write(rt, ": ")?;
     let fault = c.fault;
     if fault < 15 {
-        judge::write(cursor::part(faults, fault as usize * 37, 37));
+        rt.write_all(cursor::part(faults, fault as usize * 37, 37))?;
     }
-    judge::write(b"\n");
+    judge::write(rt, "\n")
 }
 
-fn write_verdict(replayed: u64, agreed: u64) {
+fn write_verdict(rt: &impl Print, replayed: u64, agreed: u64) -> io::Result<()> {
     if replayed == agreed {
-        judge::write(b"every recorded answer is given\n");
-        return;
+        return judge::write(rt, "every recorded answer is given\n");
     }
-    judge::write(b"NOT every recorded answer is given\n");
+    judge::write(rt, "NOT every recorded answer is given\n")
 }
 
 // ---- the file
@@ -197,35 +209,32 @@ fn past_end_mark(file: &[u8], c: Cursor) -> Cursor {
     end
 }
 
-fn replay_file(file: &[u8]) {
+fn replay_file(rt: &impl Print, file: &[u8]) -> io::Result<()> {
     let head = past_head(file);
     if head.fault != cursor::NO_FAULT {
-        write_malformed(0, head);
-        return;
+        return write_malformed(rt, 0, head);
     }
-    let progress = replay_records(file, cursor::number32(file, 8), head);
+    let progress = replay_records(rt, file, cursor::number32(file, 8), head)?;
     let tally = progress.tally;
-    write_table(tally);
+    write_table(rt, tally)?;
     let end = past_end_mark(file, progress.cursor);
     if end.fault != cursor::NO_FAULT {
-        write_malformed(tally[0], end);
-        return;
+        return write_malformed(rt, tally[0], end);
     }
-    write_verdict(tally[0], tally[23]);
+    write_verdict(rt, tally[0], tally[23])
 }
 
-// A file that fills the room may go on, so it isn't replayed. One that can't be read to its end is
-// truncated.
-fn replay_input(room: &mut [u8]) {
-    let n = io::read_full(STDIN_FILENO, room);
-    if n == room.len() {
-        write_malformed(0, cursor::standing(n, cursor::FILE_TOO_LONG));
-        return;
+// A file with as many bytes may go on, so it isn't replayed.
+fn replay_input<R: Input + Print + AllocGlobal>(rt: &R) -> io::Result<()> {
+    let mut file = Vec::new(rt.alloc());
+    rt.reader().take(LARGEST_FILE).read_to_end(&mut file)?;
+    let n = file.len();
+    if n as u64 == LARGEST_FILE {
+        return write_malformed(rt, 0, cursor::standing(n, cursor::FILE_TOO_LONG));
     }
-    replay_file(cursor::part(room, 0, n));
+    replay_file(rt, file.as_slice())
 }
 
-fn main() {
-    let mut room = [0u8; LARGEST_FILE];
-    replay_input(&mut room);
+fn main(rt: HostRuntime) -> io::Result<()> {
+    replay_input(&rt)
 }

@@ -8,7 +8,7 @@ use replay::StartAnswer;
 use scan::{Effort, Walked};
 use tail::{CountedEnd, DurableEnd, UsedBound};
 
-#[derive(Drop)]
+#[derive(Clone, Copy)]
 pub struct Said {
     pub number: u64,
     pub count: usize,

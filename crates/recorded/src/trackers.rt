@@ -3,6 +3,7 @@ use crate::cursor::Cursor;
 use crate::judge::{Record, Recorded};
 use crate::said::Said;
 use crate::{calls, cursor, judge, said};
+use std::io;
 use tracker::{
     CheckpointAnswer, ClearAnswer, DrainAnswer, FinishAnswer, RecordAnswer, ReserveAnswer, Slot,
     Tracker,
@@ -150,42 +151,75 @@ fn read_state(file: &[u8], c: Cursor) -> Reading {
     )
 }
 
-fn same_slot(record: Record, shard: usize, expected: Slot, is: Slot) -> bool {
-    let number = judge::same(record, b"number in slot", shard, expected.number, is.number);
-    let ordinal = judge::same(
+fn same_slot(
+    rt: &impl Print,
+    record: Record,
+    shard: usize,
+    expected: Slot,
+    is: Slot,
+) -> io::Result<bool> {
+    let number = judge::same(
+        rt,
         record,
-        b"ordinal in slot",
+        "number in slot",
+        shard,
+        expected.number,
+        is.number,
+    )?;
+    let ordinal = judge::same(
+        rt,
+        record,
+        "ordinal in slot",
         shard,
         expected.ordinal,
         is.ordinal,
-    );
-    let offset = judge::same(record, b"offset in slot", shard, expected.offset, is.offset);
-    number && ordinal && offset
+    )?;
+    let offset = judge::same(
+        rt,
+        record,
+        "offset in slot",
+        shard,
+        expected.offset,
+        is.offset,
+    )?;
+    Ok(number && ordinal && offset)
 }
 
-fn same_shard(record: Record, shard: usize, expected: Tracker, is: Tracker) -> bool {
+fn same_shard(
+    rt: &impl Print,
+    record: Record,
+    shard: usize,
+    expected: Tracker,
+    is: Tracker,
+) -> io::Result<bool> {
     if 16 <= shard {
-        return false;
+        return Ok(false);
     }
-    let slots = same_slot(record, shard, expected.slots[shard], is.slots[shard]);
+    let slots = same_slot(rt, record, shard, expected.slots[shard], is.slots[shard])?;
     let lengths = judge::same(
+        rt,
         record,
-        b"how many wait on shard",
+        "how many wait on shard",
         shard,
         expected.lengths[shard] as u64,
         is.lengths[shard] as u64,
-    );
-    slots && lengths
+    )?;
+    Ok(slots && lengths)
 }
 
-fn same_shards(record: Record, expected: Tracker, is: Tracker) -> bool {
+fn same_shards(
+    rt: &impl Print,
+    record: Record,
+    expected: Tracker,
+    is: Tracker,
+) -> io::Result<bool> {
     let mut all = true;
     let mut shard = 0;
     while shard < 16 {
-        all = same_shard(record, shard, expected, is) && all;
+        all = same_shard(rt, record, shard, expected, is)? && all;
         shard += 1;
     }
-    all
+    Ok(all)
 }
 
 // Places past a queue's length aren't part of the state.
@@ -196,11 +230,18 @@ fn waits(lengths: &[usize; 16], place: usize) -> bool {
     place % 32 < lengths[place / 32]
 }
 
-fn same_delta(record: Record, place: usize, expected: i8, is: i8) -> bool {
+fn same_delta(
+    rt: &impl Print,
+    record: Record,
+    place: usize,
+    expected: i8,
+    is: i8,
+) -> io::Result<bool> {
     let right = delta_complement(expected);
     judge::same(
+        rt,
         record,
-        b"delta in waiting place",
+        "delta in waiting place",
         place,
         right,
         delta_complement(is),
@@ -208,49 +249,59 @@ fn same_delta(record: Record, place: usize, expected: i8, is: i8) -> bool {
 }
 
 fn same_queues<'a>(
+    rt: &impl Print,
     record: Record,
     lengths: &'a [usize; 16],
     numbers: &'a [u64; 512],
     deltas: &'a [i8; 512],
     numbers_now: &'a [u64; 512],
     deltas_now: &'a [i8; 512],
-) -> bool {
+) -> io::Result<bool> {
     let mut all = true;
     let mut i: usize = 0;
     while i < 512 {
         if waits(lengths, i) {
             let number = judge::same(
+                rt,
                 record,
-                b"number in waiting place",
+                "number in waiting place",
                 i,
                 numbers[i],
                 numbers_now[i],
-            );
-            let delta = same_delta(record, i, deltas[i], deltas_now[i]);
+            )?;
+            let delta = same_delta(rt, record, i, deltas[i], deltas_now[i])?;
             all = all && number && delta;
         }
         i += 1;
     }
-    all
+    Ok(all)
 }
 
-fn same_state(record: Record, expected: Tracker, is: Tracker) -> bool {
-    let next = judge::same(record, b"next number", judge::ONLY, expected.next, is.next);
-    let shards = same_shards(record, expected, is);
+fn same_state(rt: &impl Print, record: Record, expected: Tracker, is: Tracker) -> io::Result<bool> {
+    let next = judge::same(
+        rt,
+        record,
+        "next number",
+        judge::ONLY,
+        expected.next,
+        is.next,
+    )?;
+    let shards = same_shards(rt, record, expected, is)?;
     let queues = same_queues(
+        rt,
         record,
         &expected.lengths,
         &expected.numbers,
         &expected.deltas,
         &is.numbers,
         &is.deltas,
-    );
-    next && shards && queues
+    )?;
+    Ok(next && shards && queues)
 }
 
 // ---- calls
 
-#[derive(Drop)]
+#[derive(Clone, Copy)]
 struct Answered {
     said: Said,
     tracker: Tracker,
@@ -381,22 +432,28 @@ fn ended(next: Cursor, agreed: bool, state: Tracker) -> After {
 }
 
 // A state that is set, or that the tracker has to be in. The original's states are sound.
-fn state(file: &[u8], c: Cursor, record: Record, before: Tracker) -> After {
+fn state(
+    rt: &impl Print,
+    file: &[u8],
+    c: Cursor,
+    record: Record,
+    before: Tracker,
+) -> io::Result<After> {
     let reading = read_state(file, c);
     let recorded = reading.tracker;
     let end = reading.cursor;
     if end.fault != cursor::NO_FAULT {
-        return ended(end, false, before);
+        return Ok(ended(end, false, before));
     }
     if record.operation == 18 {
-        return ended(end, same_state(record, recorded, before), before);
+        return Ok(ended(end, same_state(rt, record, recorded, before)?, before));
     }
     let sound = tracker::is_sound(recorded) as u64;
-    ended(
+    Ok(ended(
         end,
-        judge::same(record, b"soundness", judge::ONLY, 1, sound),
+        judge::same(rt, record, "soundness", judge::ONLY, 1, sound)?,
         recorded,
-    )
+    ))
 }
 
 // Whether a call has a delta that no i8 is.
@@ -410,18 +467,19 @@ fn too_large_delta(operation: u64, n: &[u8]) -> bool {
 
 // Holds an answer to what is recorded. A refusal leaves the tracker as it was.
 fn agrees(
+    rt: &impl Print,
     file: &[u8],
     record: Record,
     recorded: Recorded,
     before: Tracker,
     answered: Answered,
-) -> bool {
-    let said = judge::same_said(file, record, recorded, answered.said);
+) -> io::Result<bool> {
+    let said = judge::same_said(rt, file, record, recorded, answered.said)?;
     if answered.said.number == 0 {
-        return said;
+        return Ok(said);
     }
-    let kept = same_state(record, before, answered.tracker);
-    said && kept
+    let kept = same_state(rt, record, before, answered.tracker)?;
+    Ok(said && kept)
 }
 
 // Such a call is lent no bytes, so no change of them can be recorded.
@@ -430,31 +488,43 @@ fn read_no_changes(file: &[u8], c: Cursor) -> Cursor {
     cursor::read_pieces_in(file, c, &mut nothing_lent, 0)
 }
 
-fn called(file: &[u8], numbers: Cursor, record: Record, before: Tracker) -> After {
+fn called(
+    rt: &impl Print,
+    file: &[u8],
+    numbers: Cursor,
+    record: Record,
+    before: Tracker,
+) -> io::Result<After> {
     let operation = record.operation;
     let size = calls::numbers_length(operation);
     let recorded = judge::read_answer(file, cursor::passed(file, numbers, size));
     let end = read_no_changes(file, recorded.next);
     if end.fault != cursor::NO_FAULT {
-        return ended(end, false, before);
+        return Ok(ended(end, false, before));
     }
     let n = cursor::part(file, numbers.at, size);
     if too_large_delta(operation, n) {
-        return ended(
+        return Ok(ended(
             cursor::standing(numbers.at, cursor::DELTA_TOO_LARGE),
             false,
             before,
-        );
+        ));
     }
     let answered = call(operation, before, n);
-    let agreed = agrees(file, record, recorded, before, answered);
-    ended(end, agreed, answered.tracker)
+    let agreed = agrees(rt, file, record, recorded, before, answered)?;
+    Ok(ended(end, agreed, answered.tracker))
 }
 
-pub fn replay(file: &[u8], c: Cursor, record: Record, before: Tracker) -> After {
+pub fn replay(
+    rt: &impl Print,
+    file: &[u8],
+    c: Cursor,
+    record: Record,
+    before: Tracker,
+) -> io::Result<After> {
     let operation = record.operation;
     if operation == 10 || operation == 18 {
-        return state(file, c, record, before);
+        return state(rt, file, c, record, before);
     }
-    called(file, c, record, before)
+    called(rt, file, c, record, before)
 }

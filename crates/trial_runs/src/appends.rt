@@ -5,6 +5,7 @@ use crate::judge::Said;
 use crate::{judge, sample};
 use append::Appended;
 use scan::Walked;
+use std::io;
 
 pub fn said_of(answer: Appended, as_found: bool) -> Said {
     match answer {
@@ -14,14 +15,15 @@ pub fn said_of(answer: Appended, as_found: bool) -> Said {
 }
 
 // The region's length is its capacity.
-fn begin(capacity: usize, used: usize, ns: u64, klen: usize) {
-    judge::number(b", capacity ", capacity as u64);
-    judge::number(b", used ", used as u64);
-    judge::number(b", ns ", ns);
-    judge::number(b", key ", klen as u64);
+fn begin(rt: &impl Print, capacity: usize, used: usize, ns: u64, klen: usize) -> io::Result<()> {
+    judge::number(rt, ", capacity ", capacity as u64)?;
+    judge::number(rt, ", used ", used as u64)?;
+    judge::number(rt, ", ns ", ns)?;
+    judge::number(rt, ", key ", klen as u64)
 }
 
 pub fn data(
+    rt: &impl Print,
     region: &mut [u8],
     used: usize,
     kind: u64,
@@ -29,10 +31,10 @@ pub fn data(
     key: &[u8],
     value: &[u8],
     expected: Said,
-) {
-    judge::number(b"  append type ", kind);
-    begin(region.len(), used, ns, key.len());
-    judge::number(b", value ", value.len() as u64);
+) -> io::Result<()> {
+    judge::number(rt, "  append type ", kind)?;
+    begin(rt, region.len(), used, ns, key.len())?;
+    judge::number(rt, ", value ", value.len() as u64)?;
     let before = checksum::hash(region);
     let answer = append::append_data(
         region,
@@ -45,20 +47,28 @@ pub fn data(
         value,
     );
     let as_found = before == checksum::hash(region);
-    judge::answer(said_of(answer, as_found), expected);
+    judge::answer(rt, said_of(answer, as_found), expected)
 }
 
-pub fn tombstone(region: &mut [u8], used: usize, ns: u64, key: &[u8], expected: Said) {
-    judge::write(b"  append tombstone");
-    begin(region.len(), used, ns, key.len());
+pub fn tombstone(
+    rt: &impl Print,
+    region: &mut [u8],
+    used: usize,
+    ns: u64,
+    key: &[u8],
+    expected: Said,
+) -> io::Result<()> {
+    judge::write(rt, "  append tombstone")?;
+    begin(rt, region.len(), used, ns, key.len())?;
     let before = checksum::hash(region);
     let answer = append::append_tombstone(region, sample::VERSION, sample::ORDINAL, used, ns, key);
     let as_found = before == checksum::hash(region);
-    judge::answer(said_of(answer, as_found), expected);
+    judge::answer(rt, said_of(answer, as_found), expected)
 }
 
 // Into a region of any length, with a key and a value as long as they are asked to be.
 fn of_lengths(
+    rt: &impl Print,
     region: &mut [u8],
     used: usize,
     kind: u64,
@@ -66,131 +76,146 @@ fn of_lengths(
     klen: usize,
     vlen: usize,
     expected: Said,
-) {
+) -> io::Result<()> {
     let source = [0x6bu8; 32769];
     let key = judge::start_of(&source, klen);
     let value = judge::start_of(&source, vlen);
-    data(region, used, kind, ns, key, value, expected);
+    data(rt, region, used, kind, ns, key, value, expected)
 }
 
-fn in_48(used: usize, kind: u64, ns: u64, klen: usize, vlen: usize, expected: Said) {
+fn in_48(
+    rt: &impl Print,
+    used: usize,
+    kind: u64,
+    ns: u64,
+    klen: usize,
+    vlen: usize,
+    expected: Said,
+) -> io::Result<()> {
     let mut region = [0x55u8; 48];
-    of_lengths(&mut region, used, kind, ns, klen, vlen, expected);
+    of_lengths(rt, &mut region, used, kind, ns, klen, vlen, expected)
 }
 
-fn in_40000(klen: usize, vlen: usize, expected: Said) {
+fn in_40000(rt: &impl Print, klen: usize, vlen: usize, expected: Said) -> io::Result<()> {
     let mut region = [0x55u8; 40000];
-    of_lengths(&mut region, 0, 0, 1, klen, vlen, expected);
+    of_lengths(rt, &mut region, 0, 0, 1, klen, vlen, expected)
 }
 
-fn tombstone_in_48(used: usize, ns: u64, klen: usize, expected: Said) {
+fn tombstone_in_48(
+    rt: &impl Print,
+    used: usize,
+    ns: u64,
+    klen: usize,
+    expected: Said,
+) -> io::Result<()> {
     let source = [0x6bu8; 4097];
     let mut region = [0x55u8; 48];
     tombstone(
+        rt,
         &mut region,
         used,
         ns,
         judge::start_of(&source, klen),
         expected,
-    );
+    )
 }
 
 // "Capacity 48: used 32 with length 16 is accepted, with 32 gets 13." A key of 2 and a value of 4
 // make 16 bytes, flush; a value of 5 makes 17, aligned 32.
-fn capacity() {
-    judge::write(b"append\n");
-    in_48(32, 0, 1, 2, 4, Said::Number(48));
-    in_48(32, 0, 1, 2, 5, Said::Refused(13));
-    in_48(48, 0, 1, 2, 4, Said::Refused(13));
-    in_48(64, 0, 1, 2, 4, Said::Refused(13));
-    in_48(18446744073709551600, 0, 1, 2, 4, Said::Refused(13));
+fn capacity(rt: &impl Print) -> io::Result<()> {
+    judge::write(rt, "append\n")?;
+    in_48(rt, 32, 0, 1, 2, 4, Said::Number(48))?;
+    in_48(rt, 32, 0, 1, 2, 5, Said::Refused(13))?;
+    in_48(rt, 48, 0, 1, 2, 4, Said::Refused(13))?;
+    in_48(rt, 64, 0, 1, 2, 4, Said::Refused(13))?;
+    in_48(rt, 18446744073709551600, 0, 1, 2, 4, Said::Refused(13))?;
     let mut smaller = [0x55u8; 47];
-    of_lengths(&mut smaller, 32, 0, 1, 2, 4, Said::Refused(13));
+    of_lengths(rt, &mut smaller, 32, 0, 1, 2, 4, Said::Refused(13))?;
     let mut larger = [0x55u8; 49];
-    of_lengths(&mut larger, 32, 0, 1, 2, 4, Said::Number(48));
+    of_lengths(rt, &mut larger, 32, 0, 1, 2, 4, Said::Number(48))
 }
 
 // Used count, type and namespace at their limits.
-fn limits() {
-    in_48(15, 0, 1, 2, 4, Said::Refused(5));
-    in_48(16, 0, 1, 2, 4, Said::Number(32));
-    in_48(17, 0, 1, 2, 4, Said::Refused(5));
-    in_48(18446744073709551615, 0, 1, 2, 4, Said::Refused(5));
-    in_48(0, 1, 1, 2, 4, Said::Number(16));
-    in_48(0, 2, 1, 2, 4, Said::Refused(9));
-    in_48(0, 3, 1, 2, 4, Said::Refused(9));
-    in_48(0, 18446744073709551615, 1, 2, 4, Said::Refused(9));
-    in_48(0, 0, 0, 2, 4, Said::Number(16));
-    in_48(0, 0, 63, 2, 4, Said::Number(16));
-    in_48(0, 0, 64, 2, 4, Said::Refused(17));
-    in_48(0, 0, 18446744073709551615, 2, 4, Said::Refused(17));
+fn limits(rt: &impl Print) -> io::Result<()> {
+    in_48(rt, 15, 0, 1, 2, 4, Said::Refused(5))?;
+    in_48(rt, 16, 0, 1, 2, 4, Said::Number(32))?;
+    in_48(rt, 17, 0, 1, 2, 4, Said::Refused(5))?;
+    in_48(rt, 18446744073709551615, 0, 1, 2, 4, Said::Refused(5))?;
+    in_48(rt, 0, 1, 1, 2, 4, Said::Number(16))?;
+    in_48(rt, 0, 2, 1, 2, 4, Said::Refused(9))?;
+    in_48(rt, 0, 3, 1, 2, 4, Said::Refused(9))?;
+    in_48(rt, 0, 18446744073709551615, 1, 2, 4, Said::Refused(9))?;
+    in_48(rt, 0, 0, 0, 2, 4, Said::Number(16))?;
+    in_48(rt, 0, 0, 63, 2, 4, Said::Number(16))?;
+    in_48(rt, 0, 0, 64, 2, 4, Said::Refused(17))?;
+    in_48(rt, 0, 0, 18446744073709551615, 2, 4, Said::Refused(17))
 }
 
 // "Key 4,096 passes, 4,097 gets 11."
-fn lengths() {
-    in_40000(0, 0, Said::Number(16));
-    in_40000(4095, 0, Said::Number(4112));
-    in_40000(4096, 0, Said::Number(4112));
-    in_40000(4097, 0, Said::Refused(11));
-    in_40000(0, 32767, Said::Number(32784));
-    in_40000(0, 32768, Said::Number(32784));
-    in_40000(0, 32769, Said::Refused(12));
+fn lengths(rt: &impl Print) -> io::Result<()> {
+    in_40000(rt, 0, 0, Said::Number(16))?;
+    in_40000(rt, 4095, 0, Said::Number(4112))?;
+    in_40000(rt, 4096, 0, Said::Number(4112))?;
+    in_40000(rt, 4097, 0, Said::Refused(11))?;
+    in_40000(rt, 0, 32767, Said::Number(32784))?;
+    in_40000(rt, 0, 32768, Said::Number(32784))?;
+    in_40000(rt, 0, 32769, Said::Refused(12))
 }
 
 // "Largest writable data entry: 36,874 bytes, 36,880 aligned." The end that the walk reports isn't
 // rounded, so for an entry at 0 it is the length.
-fn largest(region: &mut [u8]) {
-    of_lengths(region, 0, 0, 1, 4096, 32768, Said::Number(36880));
+fn largest(rt: &impl Print, region: &mut [u8]) -> io::Result<()> {
+    of_lengths(rt, region, 0, 0, 1, 4096, 32768, Said::Number(36880))?;
     let walked = scan::walk(region, sample::VERSION, sample::ORDINAL, region.len(), 0);
-    judge::write(b"  its length");
+    judge::write(rt, "  its length")?;
     match walked {
-        Walked::Found(e) => judge::answer(Said::Number(e.end as u64), Said::Number(36874)),
-        _ => judge::another_kind(),
+        Walked::Found(e) => judge::answer(rt, Said::Number(e.end as u64), Said::Number(36874)),
+        _ => judge::another_kind(rt),
     }
 }
 
-fn largest_entries() {
+fn largest_entries(rt: &impl Print) -> io::Result<()> {
     let mut region = [0x55u8; 36880];
-    largest(&mut region);
+    largest(rt, &mut region)?;
     let mut smaller = [0x55u8; 36879];
-    of_lengths(&mut smaller, 0, 0, 1, 4096, 32768, Said::Refused(13));
+    of_lengths(rt, &mut smaller, 0, 0, 1, 4096, 32768, Said::Refused(13))
 }
 
 // Everything wrong at once, and then one thing less at each trial.
-fn order() {
-    judge::write(b"append, refusals in their order\n");
-    in_48(1, 2, 64, 4097, 32769, Said::Refused(5));
-    in_48(32, 2, 64, 4097, 32769, Said::Refused(9));
-    in_48(32, 1, 64, 4097, 32769, Said::Refused(17));
-    in_48(32, 1, 63, 4097, 32769, Said::Refused(11));
-    in_48(32, 1, 63, 4096, 32769, Said::Refused(12));
-    in_48(32, 1, 63, 4096, 32768, Said::Refused(13));
-    in_48(32, 1, 63, 2, 4, Said::Number(48));
+fn order(rt: &impl Print) -> io::Result<()> {
+    judge::write(rt, "append, refusals in their order\n")?;
+    in_48(rt, 1, 2, 64, 4097, 32769, Said::Refused(5))?;
+    in_48(rt, 32, 2, 64, 4097, 32769, Said::Refused(9))?;
+    in_48(rt, 32, 1, 64, 4097, 32769, Said::Refused(17))?;
+    in_48(rt, 32, 1, 63, 4097, 32769, Said::Refused(11))?;
+    in_48(rt, 32, 1, 63, 4096, 32769, Said::Refused(12))?;
+    in_48(rt, 32, 1, 63, 4096, 32768, Said::Refused(13))?;
+    in_48(rt, 32, 1, 63, 2, 4, Said::Number(48))
 }
 
-fn tombstone_order() {
-    tombstone_in_48(1, 64, 4097, Said::Refused(5));
-    tombstone_in_48(32, 64, 4097, Said::Refused(17));
-    tombstone_in_48(32, 63, 4097, Said::Refused(11));
-    tombstone_in_48(32, 63, 4096, Said::Refused(13));
-    tombstone_in_48(32, 63, 2, Said::Number(48));
+fn tombstone_order(rt: &impl Print) -> io::Result<()> {
+    tombstone_in_48(rt, 1, 64, 4097, Said::Refused(5))?;
+    tombstone_in_48(rt, 32, 64, 4097, Said::Refused(17))?;
+    tombstone_in_48(rt, 32, 63, 4097, Said::Refused(11))?;
+    tombstone_in_48(rt, 32, 63, 4096, Said::Refused(13))?;
+    tombstone_in_48(rt, 32, 63, 2, Said::Number(48))
 }
 
 // A key of 8 makes a tombstone of 16 bytes, flush; one of 9 makes 17, aligned 32.
-fn tombstones() {
-    judge::write(b"append tombstone\n");
-    tombstone_in_48(32, 1, 8, Said::Number(48));
-    tombstone_in_48(32, 1, 9, Said::Refused(13));
-    tombstone_in_48(15, 1, 2, Said::Refused(5));
-    tombstone_in_48(17, 1, 2, Said::Refused(5));
-    tombstone_in_48(0, 63, 0, Said::Number(16));
-    tombstone_in_48(0, 64, 0, Said::Refused(17));
+fn tombstones(rt: &impl Print) -> io::Result<()> {
+    judge::write(rt, "append tombstone\n")?;
+    tombstone_in_48(rt, 32, 1, 8, Said::Number(48))?;
+    tombstone_in_48(rt, 32, 1, 9, Said::Refused(13))?;
+    tombstone_in_48(rt, 15, 1, 2, Said::Refused(5))?;
+    tombstone_in_48(rt, 17, 1, 2, Said::Refused(5))?;
+    tombstone_in_48(rt, 0, 63, 0, Said::Number(16))?;
+    tombstone_in_48(rt, 0, 64, 0, Said::Refused(17))
 }
 
-fn longest_tombstone() {
+fn longest_tombstone(rt: &impl Print) -> io::Result<()> {
     let key = [0x6bu8; 4096];
     let mut region = [0x55u8; 4112];
-    tombstone(&mut region, 0, 1, &key, Said::Number(4112));
+    tombstone(rt, &mut region, 0, 1, &key, Said::Number(4112))
 }
 
 // What is written at 32 with its filling; the bytes before it and the one behind it stay.
@@ -201,26 +226,26 @@ const WRITTEN: [u8; 49] = [
     0x55,
 ];
 
-fn written(region: &mut [u8]) {
-    judge::write(b"append, what is written\n");
-    data(region, 32, 0, 1, b"A7", b"9", Said::Number(48));
-    judge::write(b"  13 bytes at 32, 3 of filling, all others as found");
-    judge::holds(check::same(region, &WRITTEN));
+fn written(rt: &impl Print, region: &mut [u8]) -> io::Result<()> {
+    judge::write(rt, "append, what is written\n")?;
+    data(rt, region, 32, 0, 1, b"A7", b"9", Said::Number(48))?;
+    judge::write(rt, "  13 bytes at 32, 3 of filling, all others as found")?;
+    judge::holds(rt, &*region == WRITTEN.as_slice())
 }
 
-fn bytes_written() {
+fn bytes_written(rt: &impl Print) -> io::Result<()> {
     let mut region = [0x55u8; 49];
-    written(&mut region);
+    written(rt, &mut region)
 }
 
-pub fn trials() {
-    capacity();
-    limits();
-    lengths();
-    largest_entries();
-    order();
-    tombstones();
-    longest_tombstone();
-    tombstone_order();
-    bytes_written();
+pub fn trials(rt: &impl Print) -> io::Result<()> {
+    capacity(rt)?;
+    limits(rt)?;
+    lengths(rt)?;
+    largest_entries(rt)?;
+    order(rt)?;
+    tombstones(rt)?;
+    longest_tombstone(rt)?;
+    tombstone_order(rt)?;
+    bytes_written(rt)
 }

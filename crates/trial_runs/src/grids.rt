@@ -5,6 +5,7 @@
 use crate::judge::Said;
 use crate::{judge, sample};
 use append::Appended;
+use std::io;
 
 // What stands in the place before each call.
 const PLACE: u64 = 77;
@@ -73,31 +74,33 @@ fn same_grid(a: [[u32; 64]; 3], b: [[u32; 64]; 3]) -> bool {
     true
 }
 
-fn write_column(grid: [[u32; 64]; 3], ns: usize) {
+fn write_column(rt: &impl Print, grid: [[u32; 64]; 3], ns: usize) -> io::Result<()> {
     if ns < 64 {
         if !same_column(grid, nothing(), ns) {
-            judge::number(b" ns ", ns as u64);
-            judge::number(b" (", wide(grid[0][ns]));
-            judge::number(b", ", wide(grid[1][ns]));
-            judge::number(b", ", wide(grid[2][ns]));
-            judge::write(b")");
+            judge::number(rt, " ns ", ns as u64)?;
+            judge::number(rt, " (", wide(grid[0][ns]))?;
+            judge::number(rt, ", ", wide(grid[1][ns]))?;
+            judge::number(rt, ", ", wide(grid[2][ns]))?;
+            judge::write(rt, ")")?;
         }
     }
+    Ok(())
 }
 
-fn write_columns(grid: [[u32; 64]; 3]) {
+fn write_columns(rt: &impl Print, grid: [[u32; 64]; 3]) -> io::Result<()> {
     let mut ns = 0;
     while ns < 64 {
-        write_column(grid, ns);
+        write_column(rt, grid, ns)?;
         ns += 1;
     }
+    Ok(())
 }
 
-fn write_grid(grid: [[u32; 64]; 3]) {
+fn write_grid(rt: &impl Print, grid: [[u32; 64]; 3]) -> io::Result<()> {
     if same_grid(grid, nothing()) {
-        judge::write(b" no entry");
+        judge::write(rt, " no entry")?;
     }
-    write_columns(grid);
+    write_columns(rt, grid)
 }
 
 fn said_of(answer: u32, place: u64) -> Said {
@@ -113,112 +116,127 @@ fn said_of(answer: u32, place: u64) -> Said {
     Said::Refused(wide(answer))
 }
 
-fn begin(region: &[u8], version: u64, ordinal: u64) {
-    judge::number(b"  version ", version);
-    judge::number(b", ordinal ", ordinal);
-    judge::number(b", counts in ", region.len() as u64);
-    judge::write(b" bytes");
+fn begin(rt: &impl Print, region: &[u8], version: u64, ordinal: u64) -> io::Result<()> {
+    judge::number(rt, "  version ", version)?;
+    judge::number(rt, ", ordinal ", ordinal)?;
+    judge::number(rt, ", counts in ", region.len() as u64)?;
+    judge::write(rt, " bytes")
 }
 
-fn holds(is_so: bool) {
-    judge::holds_by(is_so, b"request 9");
+fn holds(rt: &impl Print, is_so: bool) -> io::Result<()> {
+    judge::holds_by(rt, is_so, "request 9")
 }
 
 // Any answer but a grid.
-fn none(region: &[u8], version: u64, ordinal: u64, expected: Said) {
-    begin(region, version, ordinal);
+fn none(
+    rt: &impl Print,
+    region: &[u8],
+    version: u64,
+    ordinal: u64,
+    expected: Said,
+) -> io::Result<()> {
+    begin(rt, region, version, ordinal)?;
     let mut answer: u32 = 0;
     let mut place = PLACE;
     let grid = counts::count_entries(region, version, ordinal, &mut answer, &mut place);
-    judge::answer_by(said_of(answer, place), expected, b"request 9");
-    judge::write(b"  and without a grid");
-    holds(same_grid(grid, nothing()));
+    judge::answer_by(rt, said_of(answer, place), expected, "request 9")?;
+    judge::write(rt, "  and without a grid")?;
+    holds(rt, same_grid(grid, nothing()))
 }
 
-fn under(region: &[u8], version: u64, ordinal: u64, expected: [[u32; 64]; 3]) {
-    begin(region, version, ordinal);
+fn under(
+    rt: &impl Print,
+    region: &[u8],
+    version: u64,
+    ordinal: u64,
+    expected: [[u32; 64]; 3],
+) -> io::Result<()> {
+    begin(rt, region, version, ordinal)?;
     let mut answer: u32 = 0;
     let mut place = PLACE;
     let grid = counts::count_entries(region, version, ordinal, &mut answer, &mut place);
     let Said::Accepted = said_of(answer, place) else {
-        judge::another_kind();
-        return;
+        return judge::another_kind(rt);
     };
-    judge::write(b":");
-    write_grid(grid);
+    judge::write(rt, ":")?;
+    write_grid(rt, grid)?;
     if same_grid(grid, expected) {
-        judge::write(b", as request 9\n");
+        judge::write(rt, ", as request 9\n")
     } else {
-        judge::write(b", WRONG:");
-        write_grid(expected);
-        judge::write(b"\n");
+        judge::write(rt, ", WRONG:")?;
+        write_grid(rt, expected)?;
+        judge::write(rt, "\n")
     }
 }
 
-pub fn counted(region: &[u8], expected: [[u32; 64]; 3]) {
-    under(region, sample::VERSION, sample::ORDINAL, expected);
+pub fn counted(rt: &impl Print, region: &[u8], expected: [[u32; 64]; 3]) -> io::Result<()> {
+    under(rt, region, sample::VERSION, sample::ORDINAL, expected)
 }
 
 // The first n bytes of a region.
-fn start(region: &[u8], n: usize, expected: [[u32; 64]; 3]) {
-    counted(judge::start_of(region, n), expected);
+fn start(rt: &impl Print, region: &[u8], n: usize, expected: [[u32; 64]; 3]) -> io::Result<()> {
+    counted(rt, judge::start_of(region, n), expected)
 }
 
 // The documents' three entries, cut and changed.
-fn of_three(three: &[u8]) {
-    judge::write(b"counts of insert, update and tombstone in 48 bytes, whole and cut\n");
-    start(three, 48, only(1, 1, 1, 1));
-    start(three, 42, only(1, 1, 1, 1));
-    start(three, 41, only(1, 1, 1, 0));
-    start(three, 39, only(1, 1, 1, 0));
-    start(three, 13, only(1, 1, 0, 0));
-    start(three, 12, nothing());
-    start(three, 8, nothing());
-    start(three, 0, nothing());
+fn of_three(rt: &impl Print, three: &[u8]) -> io::Result<()> {
+    judge::write(
+        rt,
+        "counts of insert, update and tombstone in 48 bytes, whole and cut\n",
+    )?;
+    start(rt, three, 48, only(1, 1, 1, 1))?;
+    start(rt, three, 42, only(1, 1, 1, 1))?;
+    start(rt, three, 41, only(1, 1, 1, 0))?;
+    start(rt, three, 39, only(1, 1, 1, 0))?;
+    start(rt, three, 13, only(1, 1, 0, 0))?;
+    start(rt, three, 12, nothing())?;
+    start(rt, three, 8, nothing())?;
+    start(rt, three, 0, nothing())
 }
 
-fn damaged() {
+fn damaged(rt: &impl Print) -> io::Result<()> {
     judge::write(
-        b"counts, the update's value, its mark, its namespace changed, and nothing but zeros\n",
-    );
+        rt,
+        "counts, the update's value, its mark, its namespace changed, and nothing but zeros\n",
+    )?;
     let value = sample::changed(24, 0x32);
-    counted(&value, only(1, 1, 0, 1));
+    counted(rt, &value, only(1, 1, 0, 1))?;
     let mark = sample::changed(16, 0xc0);
-    counted(&mark, only(1, 1, 0, 1));
+    counted(rt, &mark, only(1, 1, 0, 1))?;
     let ns = sample::changed(19, 0x42);
-    counted(&ns, only(1, 1, 0, 1));
+    counted(rt, &ns, only(1, 1, 0, 1))?;
     let zeros = [0u8; 48];
-    counted(&zeros, nothing());
+    counted(rt, &zeros, nothing())
 }
 
 // 10, whatever was counted before it. Fewer than 8 bytes left end the walk.
-fn unknown() {
-    judge::write(b"counts, the type of one entry changed to 3\n");
+fn unknown(rt: &impl Print) -> io::Result<()> {
+    judge::write(rt, "counts, the type of one entry changed to 3\n")?;
     let first = sample::changed(3, 0xc1);
-    none(&first, 1, 7, Said::UnknownAt(0));
+    none(rt, &first, 1, 7, Said::UnknownAt(0))?;
     let second = sample::changed(19, 0xc1);
-    none(&second, 1, 7, Said::UnknownAt(16));
+    none(rt, &second, 1, 7, Said::UnknownAt(16))?;
     let third = sample::changed(35, 0xc1);
-    none(&third, 1, 7, Said::UnknownAt(32));
-    none(judge::start_of(&third, 40), 1, 7, Said::UnknownAt(32));
-    start(&third, 39, only(1, 1, 1, 0));
+    none(rt, &third, 1, 7, Said::UnknownAt(32))?;
+    none(rt, judge::start_of(&third, 40), 1, 7, Said::UnknownAt(32))?;
+    start(rt, &third, 39, only(1, 1, 1, 0))
 }
 
-fn versions(three: &[u8]) {
-    judge::write(b"counts in version 2 and in neither version\n");
+fn versions(rt: &impl Print, three: &[u8]) -> io::Result<()> {
+    judge::write(rt, "counts in version 2 and in neither version\n")?;
     let region = sample::THREE_IN_VERSION_2;
-    under(&region, 2, 7, only(1, 1, 1, 1));
-    under(&region, 2, 16777223, only(1, 1, 1, 1));
-    under(&region, 2, 8, nothing());
-    under(&region, 1, 7, nothing());
-    under(three, 2, 0, only(1, 1, 1, 1));
-    under(three, 2, 7, nothing());
-    none(three, 0, 7, Said::Refused(2));
-    none(three, 3, 7, Said::Refused(2));
-    none(three, 4294967297, 7, Said::Refused(2));
+    under(rt, &region, 2, 7, only(1, 1, 1, 1))?;
+    under(rt, &region, 2, 16777223, only(1, 1, 1, 1))?;
+    under(rt, &region, 2, 8, nothing())?;
+    under(rt, &region, 1, 7, nothing())?;
+    under(rt, three, 2, 0, only(1, 1, 1, 1))?;
+    under(rt, three, 2, 7, nothing())?;
+    none(rt, three, 0, 7, Said::Refused(2))?;
+    none(rt, three, 3, 7, Said::Refused(2))?;
+    none(rt, three, 4294967297, 7, Said::Refused(2))?;
     let erased = [0xffu8; 48];
-    none(&erased, 2, 10872893, Said::UnknownAt(32));
-    none(&erased, 3, 10872893, Said::Refused(2));
+    none(rt, &erased, 2, 10872893, Said::UnknownAt(32))?;
+    none(rt, &erased, 3, 10872893, Said::Refused(2))
 }
 
 fn used_after(answer: Appended, used: usize) -> usize {
@@ -300,36 +318,36 @@ fn add_to_each_namespace(region: &mut [u8], from: usize, kind: usize) -> usize {
 
 // All three types in every namespace, 192 entries in as many lines; then the same with one line more,
 // which has its mark, 0x5A1880, and type 3.
-fn every_kind(region: &mut [u8]) {
+fn every_kind(rt: &impl Print, region: &mut [u8]) -> io::Result<()> {
     let used = add_to_each_namespace(region, 0, 0);
     let used = add_to_each_namespace(region, used, 1);
     add_to_each_namespace(region, used, 2);
-    judge::write(b"  all together, one in every cell");
-    holds(counts_as(region, [[1u32; 64]; 3]));
+    judge::write(rt, "  all together, one in every cell")?;
+    holds(rt, counts_as(region, [[1u32; 64]; 3]))?;
     judge::put(region, 3072, 0x80);
     judge::put(region, 3073, 0x18);
     judge::put(region, 3074, 0x5a);
     judge::put(region, 3075, 0xc1);
-    none(region, 1, 7, Said::UnknownAt(3072));
+    none(rt, region, 1, 7, Said::UnknownAt(3072))
 }
 
-fn kinds() {
-    judge::write(b"counts of every type in every namespace\n");
-    judge::write(b"  an insert by itself, in each namespace");
-    holds(alone_in_each_namespace(0));
-    judge::write(b"  an update by itself, in each namespace");
-    holds(alone_in_each_namespace(1));
-    judge::write(b"  a tombstone by itself, in each namespace");
-    holds(alone_in_each_namespace(2));
+fn kinds(rt: &impl Print) -> io::Result<()> {
+    judge::write(rt, "counts of every type in every namespace\n")?;
+    judge::write(rt, "  an insert by itself, in each namespace")?;
+    holds(rt, alone_in_each_namespace(0))?;
+    judge::write(rt, "  an update by itself, in each namespace")?;
+    holds(rt, alone_in_each_namespace(1))?;
+    judge::write(rt, "  a tombstone by itself, in each namespace")?;
+    holds(rt, alone_in_each_namespace(2))
 }
 
-pub fn trials() {
+pub fn trials(rt: &impl Print) -> io::Result<()> {
     let three = sample::three();
-    of_three(&three);
-    damaged();
-    unknown();
-    versions(&three);
-    kinds();
+    of_three(rt, &three)?;
+    damaged(rt)?;
+    unknown(rt)?;
+    versions(rt, &three)?;
+    kinds(rt)?;
     let mut region = [0; 3088];
-    every_kind(&mut region);
+    every_kind(rt, &mut region)
 }

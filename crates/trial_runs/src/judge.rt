@@ -2,11 +2,11 @@
 // is written from the very arguments of the call.
 use answers::Refusal;
 use entry::Entry;
-use libc::STDOUT_FILENO;
 use scan::Effort;
+use std::io;
 
 // Any answer but an entry.
-#[derive(Drop)]
+#[derive(Clone, Copy)]
 pub enum Said {
     Accepted,
     Number(u64),
@@ -25,14 +25,13 @@ pub enum Said {
     No,
 }
 
-pub fn write(text: &[u8]) {
-    io::write_all(STDOUT_FILENO, text);
+pub fn write(rt: &impl Print, text: &str) -> io::Result<()> {
+    rt.print(text)
 }
 
 // A number and the words before it.
-pub fn number(before: &[u8], n: u64) {
-    write(before);
-    io::print_decimal(STDOUT_FILENO, n);
+pub fn number(rt: &impl Print, before: &str, n: u64) -> io::Result<()> {
+    print!(rt; "{before}{n}")
 }
 
 pub fn refused(refusal: Refusal) -> Said {
@@ -47,33 +46,33 @@ pub fn refused_leaving(refusal: Refusal, as_found: bool) -> Said {
     Said::RefusedChanged(answers::number(refusal) as u64)
 }
 
-fn write_effort(effort: Effort) {
-    number(b", lines ", effort.lines as u64);
-    number(b", bytes ", effort.bytes as u64);
+fn write_effort(rt: &impl Print, effort: Effort) -> io::Result<()> {
+    number(rt, ", lines ", effort.lines as u64)?;
+    number(rt, ", bytes ", effort.bytes as u64)
 }
 
-fn write_said(said: Said) {
+fn write_said(rt: &impl Print, said: Said) -> io::Result<()> {
     match said {
-        Said::Accepted => write(b"accepted"),
-        Said::Number(n) => number(b"", n),
+        Said::Accepted => write(rt, "accepted"),
+        Said::Number(n) => number(rt, "", n),
         Said::Header(version, ordinal) => {
-            number(b"version ", version);
-            number(b", ordinal ", ordinal);
+            number(rt, "version ", version)?;
+            number(rt, ", ordinal ", ordinal)
         }
-        Said::End => write(b"End"),
-        Said::Refused(n) => number(b"refused ", n),
-        Said::UnknownAt(p) => number(b"refused 10 at ", p),
+        Said::End => write(rt, "End"),
+        Said::Refused(n) => number(rt, "refused ", n),
+        Said::UnknownAt(p) => number(rt, "refused 10 at ", p),
         Said::Ended(n, effort) => {
-            number(b"", n);
-            write_effort(effort);
+            number(rt, "", n)?;
+            write_effort(rt, effort)
         }
         Said::UnknownAfter(p, effort) => {
-            number(b"refused 10 at ", p);
-            write_effort(effort);
+            number(rt, "refused 10 at ", p)?;
+            write_effort(rt, effort)
         }
-        Said::RefusedChanged(n) => number(b"bytes changed, and refused ", n),
-        Said::Yes => write(b"yes"),
-        Said::No => write(b"no"),
+        Said::RefusedChanged(n) => number(rt, "bytes changed, and refused ", n),
+        Said::Yes => write(rt, "yes"),
+        Said::No => write(rt, "no"),
     }
 }
 
@@ -144,68 +143,73 @@ fn same_said(a: Said, b: Said) -> bool {
 }
 
 // The end of a trial's line, and by which document the answer has to be that one.
-pub fn answer_by(answered: Said, expected: Said, document: &[u8]) {
-    write(b": ");
-    write_said(answered);
+pub fn answer_by(
+    rt: &impl Print,
+    answered: Said,
+    expected: Said,
+    document: &str,
+) -> io::Result<()> {
+    write(rt, ": ")?;
+    write_said(rt, answered)?;
     if same_said(answered, expected) {
-        write(b", as ");
-        write(document);
-        write(b"\n");
+        write(rt, ", as ")?;
+        write(rt, document)?;
+        write(rt, "\n")
     } else {
-        write(b", WRONG: ");
-        write_said(expected);
-        write(b"\n");
+        write(rt, ", WRONG: ")?;
+        write_said(rt, expected)?;
+        write(rt, "\n")
     }
 }
 
-pub fn answer(answered: Said, expected: Said) {
-    answer_by(answered, expected, b"document 01");
+pub fn answer(rt: &impl Print, answered: Said, expected: Said) -> io::Result<()> {
+    answer_by(rt, answered, expected, "document 01")
 }
 
 // A question whose answer is to be yes.
-pub fn holds_by(is_so: bool, document: &[u8]) {
+pub fn holds_by(rt: &impl Print, is_so: bool, document: &str) -> io::Result<()> {
     if is_so {
-        answer_by(Said::Yes, Said::Yes, document);
+        answer_by(rt, Said::Yes, Said::Yes, document)
     } else {
-        answer_by(Said::No, Said::Yes, document);
+        answer_by(rt, Said::No, Said::Yes, document)
     }
 }
 
-pub fn holds(is_so: bool) {
-    holds_by(is_so, b"document 01");
+pub fn holds(rt: &impl Print, is_so: bool) -> io::Result<()> {
+    holds_by(rt, is_so, "document 01")
 }
 
 // The bytes of a key or a value, which are text here.
-pub fn bytes(answered: &[u8], expected: &[u8]) {
-    write(b": \"");
-    write(answered);
-    if check::same(answered, expected) {
-        write(b"\", as document 01\n");
+pub fn bytes(rt: &impl Print, answered: &[u8], expected: &[u8]) -> io::Result<()> {
+    write(rt, ": \"")?;
+    rt.write_all(answered)?;
+    if answered == expected {
+        write(rt, "\", as document 01\n")
     } else {
-        write(b"\", WRONG: \"");
-        write(expected);
-        write(b"\"\n");
+        write(rt, "\", WRONG: \"")?;
+        rt.write_all(expected)?;
+        write(rt, "\"\n")
     }
 }
 
-fn write_kind(kind: u64) {
+fn write_kind(rt: &impl Print, kind: u64) -> io::Result<()> {
     match kind {
-        0 => write(b"insert"),
-        1 => write(b"update"),
-        2 => write(b"tombstone"),
-        _ => write(b"unknown type"),
+        0 => write(rt, "insert"),
+        1 => write(rt, "update"),
+        2 => write(rt, "tombstone"),
+        _ => write(rt, "unknown type"),
     }
 }
 
-fn write_entry(e: Entry) {
-    write_kind(e.kind);
-    number(b" at ", e.offset as u64);
-    number(b", ns ", e.ns);
-    number(b", value ", e.vlen as u64);
-    number(b" at ", e.vplace as u64);
-    number(b", key ", e.klen as u64);
-    number(b" at ", e.kplace as u64);
-    number(b", end ", e.end as u64);
+fn write_entry(rt: &impl Print, e: Entry) -> io::Result<()> {
+    write_kind(rt, e.kind)?;
+    number(rt, " at ", e.offset as u64)?;
+    number(rt, ", ns ", e.ns)?;
+    number(rt, ", value ", e.vlen as u64)?;
+    number(rt, " at ", e.vplace as u64)?;
+    number(rt, ", key ", e.klen as u64)?;
+    number(rt, " at ", e.kplace as u64)?;
+    number(rt, ", end ", e.end as u64)
 }
 
 fn same_entry(a: Entry, b: Entry) -> bool {
@@ -234,27 +238,32 @@ fn same_entry(a: Entry, b: Entry) -> bool {
 }
 
 // An entry, and by which document it has to be that one.
-pub fn found_by(answered: Entry, expected: Entry, document: &[u8]) {
-    write(b": ");
-    write_entry(answered);
+pub fn found_by(
+    rt: &impl Print,
+    answered: Entry,
+    expected: Entry,
+    document: &str,
+) -> io::Result<()> {
+    write(rt, ": ")?;
+    write_entry(rt, answered)?;
     if same_entry(answered, expected) {
-        write(b", as ");
-        write(document);
-        write(b"\n");
+        write(rt, ", as ")?;
+        write(rt, document)?;
+        write(rt, "\n")
     } else {
-        write(b", WRONG: ");
-        write_entry(expected);
-        write(b"\n");
+        write(rt, ", WRONG: ")?;
+        write_entry(rt, expected)?;
+        write(rt, "\n")
     }
 }
 
-pub fn found(answered: Entry, expected: Entry) {
-    found_by(answered, expected, b"document 01");
+pub fn found(rt: &impl Print, answered: Entry, expected: Entry) -> io::Result<()> {
+    found_by(rt, answered, expected, "document 01")
 }
 
 // An answer that is none where an entry was expected, or the other way round.
-pub fn another_kind() {
-    write(b": WRONG: another kind of answer\n");
+pub fn another_kind(rt: &impl Print) -> io::Result<()> {
+    write(rt, ": WRONG: another kind of answer\n")
 }
 
 // The first n bytes of a run, or none where it is shorter.

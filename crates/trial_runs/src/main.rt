@@ -5,6 +5,8 @@
 //
 // Left out: refusal 3, which needs a region of 268,435,457 bytes, more than a program's stack holds;
 // and the mark 0 at offset 173,966,336, which the proved table has.
+#![tactic(auto)]
+
 mod appends;
 mod efforts;
 mod grids;
@@ -16,13 +18,15 @@ mod thirteen;
 mod versions;
 mod walks;
 
-fn main() {
-    headers::trials();
-    appends::trials();
-    walks::trials();
-    reads::trials();
-    thirteen::trials();
-    versions::trials();
-    efforts::trials();
-    grids::trials();
+use std::io;
+
+fn main(rt: HostRuntime) -> io::Result<()> {
+    headers::trials(&rt)?;
+    appends::trials(&rt)?;
+    walks::trials(&rt)?;
+    reads::trials(&rt)?;
+    thirteen::trials(&rt)?;
+    versions::trials(&rt)?;
+    efforts::trials(&rt)?;
+    grids::trials(&rt)
 }

@@ -3,10 +3,12 @@
 // two logs one entry in the middle is bad. The boot rule of the home-made tool, to stop at the
 // first torn entry, and the listing go over the same bytes, and what each takes is written side by
 // side: under the old rule blocks are handed out a second time, under the listing none.
+#![tactic(auto)]
+
 use append::Appended;
 use entry::Entry;
-use libc::STDOUT_FILENO;
 use scan::Walked;
+use std::io;
 use tail::{DurableEnd, UsedBound};
 
 // Both sites' cards have files of version 1, whose ordinal no mark depends on.
@@ -25,38 +27,32 @@ struct Progress {
     through: bool,
 }
 
-fn write(text: &[u8]) {
-    io::write_all(STDOUT_FILENO, text);
+fn write(out: &impl Print, text: &[u8]) -> io::Result<()> {
+    out.write_all(text)
 }
 
 // A number in three places.
-fn place(n: usize) {
-    if n < 100 {
-        write(b" ");
-    }
-    if n < 10 {
-        write(b" ");
-    }
-    io::print_decimal(STDOUT_FILENO, n as u64);
+fn place(out: &impl Print, n: usize) -> io::Result<()> {
+    print!(out; "{n:3}")
 }
 
 // Logs a block and answers the new used count.
-fn log_block(region: &mut [u8], used: usize, first: &[u8]) -> usize {
+fn log_block(out: &impl Print, region: &mut [u8], used: usize, first: &[u8]) -> io::Result<usize> {
     let answer = append::append_data(region, VERSION, ORDINAL, used, 0, 1, b"block", first);
     let Appended::Used(next) = answer else {
-        write(b"refused\n");
-        return used;
+        write(out, b"refused\n")?;
+        return Ok(used);
     };
-    next
+    Ok(next)
 }
 
-fn bound_of(region: &[u8]) -> usize {
+fn bound_of(out: &impl Print, region: &[u8]) -> io::Result<usize> {
     let answer = tail::used_bound(region);
     let UsedBound::Bound(bound) = answer else {
-        write(b"refused\n");
-        return 0;
+        write(out, b"refused\n")?;
+        return Ok(0);
     };
-    bound
+    Ok(bound)
 }
 
 fn nothing() -> Progress {
@@ -83,56 +79,56 @@ fn through(b: Progress) -> Progress {
 }
 
 // A line of the table: the entry, and whether the old rule still takes it.
-fn row(region: &[u8], e: Entry, stopped: bool) {
-    place(e.offset);
-    write(b"  block ");
-    write(scan::value_of(region, e));
+fn row(out: &impl Print, region: &[u8], e: Entry, stopped: bool) -> io::Result<()> {
+    place(out, e.offset)?;
+    write(out, b"  block ")?;
+    write(out, scan::value_of(region, e))?;
     if stopped {
-        write(b"       not seen               taken\n");
-        return;
+        return write(out, b"       not seen               taken\n");
     }
-    write(b"       taken                  taken\n");
+    write(out, b"       taken                  taken\n")
 }
 
 // One more entry, if there is one. An entry that doesn't begin at the line behind the last one
 // has something bad before it.
-fn step(region: &[u8], bound: usize, b: Progress) -> Progress {
+fn step(out: &impl Print, region: &[u8], bound: usize, b: Progress) -> io::Result<Progress> {
     let from = b.from;
     let walked = scan::walk(region, VERSION, ORDINAL, bound, from);
     let Walked::Found(e) = walked else {
-        return through(b);
+        return Ok(through(b));
     };
-    let gap = 16 <= std::num::wrapping_sub_usize(e.offset, from);
+    let gap = 16 <= e.offset.wrapping_sub(from);
     if gap {
-        write(b"     a torn entry    stops here             passed over\n");
+        write(
+            out,
+            b"     a torn entry    stops here             passed over\n",
+        )?;
     }
     let stopped = b.stopped || gap;
-    row(region, e, stopped);
+    row(out, region, e, stopped)?;
     let mut old = e;
     if stopped {
         old = b.old;
     }
-    Progress {
+    Ok(Progress {
         from: e.end,
         stopped: stopped,
         old: old,
         new: e,
         through: false,
-    }
+    })
 }
 
 // The whole log: sixteen entries at the most, and the logs here have fewer.
-fn boot(region: &[u8], bound: usize) -> Progress {
+fn boot(out: &impl Print, region: &[u8], bound: usize) -> io::Result<Progress> {
     let mut b = nothing();
-    let mut turns: u64 = 0;
-    while turns < 16 {
-        b = step(region, bound, b);
-        turns += 1;
+    for _ in 0..16u8 {
+        b = step(out, region, bound, b)?;
         if b.through {
-            return b;
+            return Ok(b);
         }
     }
-    b
+    Ok(b)
 }
 
 fn wide(x: u8) -> u64 {
@@ -148,69 +144,77 @@ fn hundreds(first: &[u8]) -> u64 {
 }
 
 // Ends a line: the blocks behind `newest` up to `last`, which were handed out before the boot.
-fn handed_out_twice(newest: &[u8], last: &[u8]) {
-    io::print_decimal(
-        STDOUT_FILENO,
-        std::num::wrapping_sub_u64(hundreds(last), hundreds(newest)),
-    );
-    write(b" blocks");
+fn handed_out_twice(out: &impl Print, newest: &[u8], last: &[u8]) -> io::Result<()> {
+    let blocks = hundreds(last).wrapping_sub(hundreds(newest));
+    print!(out; "{blocks} blocks")
 }
 
-fn compare(region: &[u8], last: &[u8]) {
-    let bound = bound_of(region);
-    write(b"offset               stop at a torn entry   listing\n");
-    let b = boot(region, bound);
+fn compare(out: &impl Print, region: &[u8], last: &[u8]) -> io::Result<()> {
+    let bound = bound_of(out, region)?;
+    write(
+        out,
+        b"offset               stop at a torn entry   listing\n",
+    )?;
+    let b = boot(out, region, bound)?;
     let old = b.old;
     let new = b.new;
-    write(b"goes on behind       ");
-    write(scan::value_of(region, old));
-    write(b"                    ");
-    write(scan::value_of(region, new));
-    write(b"\nhanded out twice     ");
-    handed_out_twice(scan::value_of(region, old), last);
-    write(b"               ");
-    handed_out_twice(scan::value_of(region, new), last);
+    write(out, b"goes on behind       ")?;
+    write(out, scan::value_of(region, old))?;
+    write(out, b"                    ")?;
+    write(out, scan::value_of(region, new))?;
+    write(out, b"\nhanded out twice     ")?;
+    handed_out_twice(out, scan::value_of(region, old), last)?;
+    write(out, b"               ")?;
+    handed_out_twice(out, scan::value_of(region, new), last)?;
     let answer = tail::durable_end(region, VERSION, ORDINAL, bound);
     let durable = answer.end;
     if let DurableEnd::End(end) = durable {
-        write(b"\ndurable end          ");
-        io::print_decimal(STDOUT_FILENO, end as u64);
+        print!(out; "\ndurable end          {end}")?;
     }
-    write(b"\n\n");
+    write(out, b"\n\n")
 }
 
 // One byte of the third entry's value goes bad, long after it was written.
-fn north() {
+fn north(out: &impl Print) -> io::Result<()> {
     let mut region = [0; 256];
-    let used = log_block(&mut region, 0, b"000");
-    let used = log_block(&mut region, used, b"100");
-    let used = log_block(&mut region, used, b"200");
-    let used = log_block(&mut region, used, b"300");
-    let used = log_block(&mut region, used, b"400");
-    log_block(&mut region, used, b"500");
+    let used = log_block(out, &mut region, 0, b"000")?;
+    let used = log_block(out, &mut region, used, b"100")?;
+    let used = log_block(out, &mut region, used, b"200")?;
+    let used = log_block(out, &mut region, used, b"300")?;
+    let used = log_block(out, &mut region, used, b"400")?;
+    log_block(out, &mut region, used, b"500")?;
     region[73] = 0x37;
-    write(b"Site North: one byte of block 200's entry went bad on the card.\n");
-    compare(&region, b"500");
+    write(
+        out,
+        b"Site North: one byte of block 200's entry went bad on the card.\n",
+    )?;
+    compare(out, &region, b"500")
 }
 
 // The power goes while the third entry is written: only its first nine bytes came. The block is
 // logged once more behind them.
-fn south() {
+fn south(out: &impl Print) -> io::Result<()> {
     let mut region = [0; 256];
-    let used = log_block(&mut region, 0, b"000");
-    let used = log_block(&mut region, used, b"100");
-    log_block(&mut region, used, b"200");
+    let used = log_block(out, &mut region, 0, b"000")?;
+    let used = log_block(out, &mut region, used, b"100")?;
+    log_block(out, &mut region, used, b"200")?;
     fields::fill(&mut region, 73, 23, 0);
-    let used = bound_of(&region);
-    let used = log_block(&mut region, used, b"200");
-    let used = log_block(&mut region, used, b"300");
-    log_block(&mut region, used, b"400");
-    write(b"Site South: the power went while block 200 was logged. It was logged once more.\n");
-    compare(&region, b"400");
+    let used = bound_of(out, &region)?;
+    let used = log_block(out, &mut region, used, b"200")?;
+    let used = log_block(out, &mut region, used, b"300")?;
+    log_block(out, &mut region, used, b"400")?;
+    write(
+        out,
+        b"Site South: the power went while block 200 was logged. It was logged once more.\n",
+    )?;
+    compare(out, &region, b"400")
 }
 
-fn main() {
-    write(b"A block's first number is logged before the block is handed out.\n\n");
-    north();
-    south();
+fn main(rt: HostRuntime) -> io::Result<()> {
+    write(
+        &rt,
+        b"A block's first number is logged before the block is handed out.\n\n",
+    )?;
+    north(&rt)?;
+    south(&rt)
 }
