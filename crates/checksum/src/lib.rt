@@ -72,6 +72,7 @@ fn step_byte(table: &[u16; 256], state: u16, b: u8) -> u16
 // The register after two bytes. The first byte meets the register's upper half, and sixteen bits take
 // the two to the second table's entry. The second byte meets the lower half, which the first eight bits
 // only move up, and the other eight take the two to the first table's entry.
+#[tactic(auto, using(crate::proofs::Linear::place_lt, crate::proofs::Linear::lower_place_lt))]
 fn step_pair(table: &[u16; 256], second: &[u16; 256], state: u16, a: u8, b: u8) -> u16
     requires { (table.now ≡ entries 8) × (second.now ≡ entries 16) }
     ensures { result ≡ byte (byte state a) b }
