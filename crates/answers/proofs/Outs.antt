@@ -3,7 +3,7 @@
 use Prim.Native.Nat.{ℕ}
 use mathlib.Core.Path.{◌≡◌, refl}
 use mathlib.Core.List.{List, [], ◌∷◌}
-use Rattle.answers.specs.Answers.{Said, refused, value_out, place_out}
+use Rattle.answers.specs.Answers.{refused, value_out, place_out}
 
 pub value_kept : {A : Type 0} (n : ℕ) (values : List ℕ) (old : A) → value_out (refused n values) old ≡ old
 value_kept n values old = refl
