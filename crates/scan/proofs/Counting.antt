@@ -150,6 +150,14 @@ module _ (mark : ℕ → ℕ) (s : List ℕ) where
   counted_short bound p inside h =
       sym (from_none (counted_from mark s bound p)) ∙ counted_out bound p 0 0 inside (effort_short p h) (trial_short mark s p h)
 
+  -- a line with the right mark and type 3 is the last one
+  pub counted_unknown : (bound p word : ℕ) → p < bound → p + 8 ≤ length s → word ≡ field 4 s p → word_mark word ≡ mark p → word_kind word ≡ 3
+      → counted_from mark s bound p ≡ record { answer = refused 10 (p ∷ []); effort = taking 1 0 }
+  counted_unknown bound p word inside room is m k =
+      let right = sym (ap word_mark is) ∙ m in
+      let other = sym (ap word_kind is) ∙ k in
+      sym (from_none (counted_from mark s bound p)) ∙ counted_out bound p 0 0 inside (effort_unknown p room right other) (trial_unknown mark s p room right other)
+
   -- the same steps by what the code has tested
 
   module _ (bound p lines bytes : ℕ) (inside : p < bound) where

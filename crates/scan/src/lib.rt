@@ -158,6 +158,7 @@ fn skip(region: &[u8], seed: u32, bound: usize, p: usize) -> usize
 // 4 refuses, and spent no more than a whole region can take. The lines that were skipped are
 // counted by their places. A walk that is lent no window, two empty slices, takes each sum from
 // the bytes.
+#[tactic(auto, using(crate::proofs::Counting::counted_short, crate::proofs::Counting::counted_over, crate::proofs::Counting::counted_aligned, crate::proofs::Counting::counted_unknown))]
 pub fn counted_walk(
     region: &[u8],
     seed: u32,

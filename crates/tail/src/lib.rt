@@ -47,6 +47,7 @@ fn counted(end: DurableEnd, lines: usize, bytes: usize) -> CountedEnd
 }
 
 // One past the last nonzero byte, rounded up to a line. Refusal 3.
+#[tactic(auto, using(crate::proofs::Bounds::nonzero_before, crate::proofs::Bounds::nonzero_none, crate::proofs::Bounds::nonzero_here), unfolding(crate::specs::Tail::used_of, crate::specs::Tail::used_bound))]
 pub fn used_bound(region: &[u8]) -> UsedBound
     ensures { said_used result ≡ used_of region.now }
 {

@@ -20,7 +20,7 @@ use Rattle.scan.specs.declared.Walked.TheVariants.{Found}
 use Rattle.window.specs.Windows.{Keeps}
 use Rattle.scan.specs.declared.CountedWalk.{CountedWalk}
 use Rattle.scan.proofs.Trials.{trial_known}
-use Rattle.scan.proofs.Counting.{taking, behind_at_once, skipped, counted_aligned, counted_none, counted_end, counted_short, counted_over, unmarked_on, unknown_out, known_on, known_out}
+use Rattle.scan.proofs.Counting.{taking, behind_at_once, skipped, counted_aligned, counted_none, counted_end, counted_over, unmarked_on, known_on, known_out}
 use Rattle.scan.proofs.Efforts.{summed_most, counted_fits}
 use Rattle.scan.proofs.counted_walk.Goals as goal
 
@@ -268,64 +268,6 @@ returns-then-bound-p c =
           ∙ sym (counted_over m s a.bound c.trial.p c.trial.lines c.trial.bytes (counted_end m s a.bound c.trial.p (omega arith)))
           ∙ out,
       still_kept c.counted-then-bound-p.ensures c.trial.invariant.3,
-    )
-
-pub returns-then-region-p-lt8 : goal.returns-then-region-p-lt8
-returns-then-region-p-lt8 c =
-    let whole : let a = c.args in behind (taking c.trial.lines c.trial.bytes) (counted_from (mark_from a.seed) a.region.now a.bound c.trial.p) ≡ behind a.spent (counted_from (mark_from a.seed) a.region.now a.bound c.align_up-p.result) =
-    let a = c.args in
-    let m = mark_from a.seed in
-    let s = a.region.now in
-    let l = c.lines in
-    let same = c.trial.invariant in
-    ap₂ (λ (n b : ℕ). behind (taking n b) (counted_from m s a.bound c.trial.p)) same.0 same.1
-    ∙ ap (λ (p : ℕ). behind (taking l.lines l.bytes) (counted_from m s a.bound p)) same.2
-    ∙ l.invariant.1 in
-    let out : let a = c.args in behind (taking c.trial.lines c.trial.bytes) (counted_from (mark_from a.seed) a.region.now a.bound c.trial.p) ≡ behind a.spent (counted_walk (mark_from a.seed) a.region.now a.bound a.offset) =
-    let a = c.args in
-    let m = mark_from a.seed in
-    let s = a.region.now in
-    whole ∙ ap (λ (p : ℕ). behind a.spent (counted_from m s a.bound p)) c.align_up-p.ensures ∙ ap (behind a.spent) (sym (counted_aligned m s a.bound a.offset)) in
-    let a = c.args in
-    let m = mark_from a.seed in
-    let s = a.region.now in (
-      ap said_counted c.counted-then-region-p-lt8.ensures
-          ∙ sym (counted_over m s a.bound c.trial.p c.trial.lines c.trial.bytes (counted_short m s a.bound c.trial.p (omega arith) (omega arith)))
-          ∙ out,
-      still_kept c.counted-then-region-p-lt8.ensures c.trial.invariant.3,
-    )
-
-pub returns-then-word_kind-eq-UNKNOWN : goal.returns-then-word_kind-eq-UNKNOWN
-returns-then-word_kind-eq-UNKNOWN c =
-    let whole : let a = c.args in behind (taking c.trial.lines c.trial.bytes) (counted_from (mark_from a.seed) a.region.now a.bound c.trial.p) ≡ behind a.spent (counted_from (mark_from a.seed) a.region.now a.bound c.align_up-p.result) =
-    let a = c.args in
-    let m = mark_from a.seed in
-    let s = a.region.now in
-    let l = c.lines in
-    let same = c.trial.invariant in
-    ap₂ (λ (n b : ℕ). behind (taking n b) (counted_from m s a.bound c.trial.p)) same.0 same.1
-    ∙ ap (λ (p : ℕ). behind (taking l.lines l.bytes) (counted_from m s a.bound p)) same.2
-    ∙ l.invariant.1 in
-    let out : let a = c.args in behind (taking c.trial.lines c.trial.bytes) (counted_from (mark_from a.seed) a.region.now a.bound c.trial.p) ≡ behind a.spent (counted_walk (mark_from a.seed) a.region.now a.bound a.offset) =
-    let a = c.args in
-    let m = mark_from a.seed in
-    let s = a.region.now in
-    whole ∙ ap (λ (p : ℕ). behind a.spent (counted_from m s a.bound p)) c.align_up-p.ensures ∙ ap (behind a.spent) (sym (counted_aligned m s a.bound a.offset)) in
-    let inside : c.trial.p < c.args.bound =
-    omega arith in
-    let room : c.trial.p + 8 ≤ length c.args.region.now =
-    omega arith in
-    let mark_read : c.word_mark.result ≡ word_mark (field 4 c.args.region.now c.trial.p) =
-    cc in
-    let mark_right : word_mark (field 4 c.args.region.now c.trial.p) ≡ mark_from c.args.seed c.trial.p =
-    cc (mark_read) in
-    let kind_read : c.word_kind.result ≡ word_kind (field 4 c.args.region.now c.trial.p) =
-    cc in
-    let a = c.args in (
-      ap said_counted c.counted-then-word_kind-eq-UNKNOWN.ensures
-          ∙ sym (unknown_out (mark_from a.seed) a.region.now a.bound c.trial.p c.trial.lines c.trial.bytes (inside) (room) (mark_right) (sym (kind_read) ∙ c.if-word_kind-eq-UNKNOWN.true))
-          ∙ out,
-      still_kept c.counted-then-word_kind-eq-UNKNOWN.ensures c.trial.invariant.3,
     )
 
 pub returns-then-judged : goal.returns-then-judged

@@ -2,10 +2,8 @@
 -- Assumes nothing.
 use mathlib.Core.Path.{sym, ap, ◌∙◌}
 use native.Mathlib.Omega.{arith}
-use borrow.Author.Tests.{lt-ltb, le-ltb}
 use Rattle.window.proofs.Places.{keeps_none}
 use Rattle.entry.specs.Words.{mark_from}
-use Rattle.scan.specs.Walk.{walk_of}
 use Rattle.scan.specs.Efforts.{Counted}
 use Rattle.scan.proofs.Walks.{walk_of_accepted}
 use Rattle.scan.proofs.Counting.{counted_answer}
