@@ -10,7 +10,7 @@ use Rattle.append.specs.Append.{said}
 use Rattle.append.specs.declared.Appended.{Appended}
 use Rattle.append.specs.declared.Appended.TheVariants.{Used, Refused}
 use Rattle.append.proofs.append_data.Kinds as data-kinds
-use Rattle.append.proofs.append_data.Reads as data_Reads
+use Rattle.append.proofs.append_data.Reads as data-reads
 use Rattle.append.proofs.append_tombstone.Kinds as tombstone-kinds
 use Rattle.append.proofs.append_tombstone.Reads as tombstone-reads
 
@@ -21,7 +21,7 @@ said_once (Used m) (Refused r) e = absurd (let z : ◌≡◌ {A = ℕ} 0 1 = cc 
 said_once (Refused r) (Used n) e = absurd (let z : ◌≡◌ {A = ℕ} 0 1 = cc in omega arith)
 said_once (Refused r) (Refused q) e = let n : number_of r ≡ number_of q = cc in ap Refused (same_number r q n)
 
-pub append_data_only : OneOutcome 3 data-kinds.ps data-kinds.r data_Reads.Post (λ κs x. x.0.now)
+pub append_data_only : OneOutcome 3 data-kinds.ps data-kinds.r data-reads.Post (λ κs x. x.0.now)
 append_data_only κs args r s x y hr hs = (said_once r s (hr.says ∙ sym hs.says), hr.leaves ∙ sym hs.leaves)
 
 pub append_tombstone_only : OneOutcome 2 tombstone-kinds.ps tombstone-kinds.r tombstone-reads.Post (λ κs x. x.0.now)

@@ -101,8 +101,8 @@ module _ (mark : ℕ → ℕ) (s t : List ℕ) (p x : ℕ) (e : Entry) (v : Veri
         c.indeed (rw here both.0) (rw here both.1)
 
     -- where both are covered, the sum is the same, so what is covered would be the same
-    in-covered : p ≤ x → x + 2 ≤ sum → ⊥
-    in-covered low high =
+    in_covered : p ≤ x → x + 2 ≤ sum → ⊥
+    in_covered low high =
         let a = sum_end in
         let m = x - p in
         let n : p + m ≡ x = omega arith in
@@ -147,7 +147,7 @@ module _ (mark : ℕ → ℕ) (s t : List ℕ) (p x : ℕ) (e : Entry) (v : Veri
   same_end_quiet side ends known =
       let o : e.offset ≡ p = ap (λ (y : Entry). y.offset) (sym v.is) ∙ entry_offset s p in
       record {
-        unverified = λ h. let w = verified mark t p h in ⊎_elim (λ l. in-covered w ends (let a = l.0 in omega arith) l.1) (in_sum w ends) side;
+        unverified = λ h. let w = verified mark t p h in ⊎_elim (λ l. in_covered w ends (let a = l.0 in omega arith) l.1) (in_sum w ends) side;
         known = λ room marked. known;
       }
 

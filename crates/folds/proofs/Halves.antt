@@ -43,8 +43,8 @@ low_shift k x =
     ∙ add-mul-mod_self_right (l * 2 ^ k) (u * 2 ^ k) (2 ^ 64)
 
 -- in 128 bits, the upper half stays in 64
-in-128 : (u l : ℕ) {x : ℕ} → l < 2 ^ 64 → x ≡ u * 2 ^ 64 + l → x % 2 ^ 128 ≡ u % 2 ^ 64 * 2 ^ 64 + l
-in-128 u l {x} h e = let p = halves x h e in mod-pow-add x 64 64 ∙ ap₂ (λ (y z : ℕ). y % 2 ^ 64 * 2 ^ 64 + z) p.0 p.1
+in_128 : (u l : ℕ) {x : ℕ} → l < 2 ^ 64 → x ≡ u * 2 ^ 64 + l → x % 2 ^ 128 ≡ u % 2 ^ 64 * 2 ^ 64 + l
+in_128 u l {x} h e = let p = halves x h e in mod-pow-add x 64 64 ∙ ap₂ (λ (y z : ℕ). y % 2 ^ 64 * 2 ^ 64 + z) p.0 p.1
 
 module _ (hi lo : ℕ) (hh : hi < 2 ^ 64) (hl : lo < 2 ^ 64) where
   -- the quotient's halves, as the code makes them
@@ -105,10 +105,10 @@ folded_halves x =
     let sum_lt : bit_xor l m < 2 ^ 64 = xor_lt 64 l m hl hm in
     let in40 = bit_xor (u * 2 ^ 40 % 2 ^ 64) (l / 2 ^ 24) in
     let e40 : q * 2 ^ 40 % 2 ^ 128 ≡ in40 * 2 ^ 64 + m =
-    in-128 (q / 2 ^ 24) m hm (shl_parts q 24 40 64 refl ∙ ap (λ (z : ℕ). q / 2 ^ 24 * 2 ^ 64 + z) (low_shift 40 q))
+    in_128 (q / 2 ^ 24) m hm (shl_parts q 24 40 64 refl ∙ ap (λ (z : ℕ). q / 2 ^ 24 * 2 ^ 64 + z) (low_shift 40 q))
     ∙ ap (λ (z : ℕ). z * 2 ^ 64 + m) (ap (λ (z : ℕ). z / 2 ^ 24 % 2 ^ 64) (sym (split q 64)) ∙ shift_24 u l hl) in
     let e96 : q * 2 ^ 96 % 2 ^ 128 ≡ l * 2 ^ 32 % 2 ^ 64 * 2 ^ 64 + 0 =
-    in-128 (q * 2 ^ 32) 0 (pow_pos 64) (ap (λ (z : ℕ). q * z) (pow-add 2 32 64) ∙ sym (mul_assoc q (2 ^ 32) (2 ^ 64)) ∙ sym (add-zero (q * 2 ^ 32 * 2 ^ 64)))
+    in_128 (q * 2 ^ 32) 0 (pow_pos 64) (ap (λ (z : ℕ). q * z) (pow-add 2 32 64) ∙ sym (mul_assoc q (2 ^ 32) (2 ^ 64)) ∙ sym (add-zero (q * 2 ^ 32 * 2 ^ 64)))
     ∙ ap (λ (z : ℕ). z * 2 ^ 64 + 0) (low_shift 32 q) in
     let parts = halves (folded 8 x) (xor_lt 64 (bit_xor l m) 0 sum_lt (pow_pos 64))
     (both (bit_xor u in40) (bit_xor l m) (l * 2 ^ 32 % 2 ^ 64) 0 sum_lt (pow_pos 64) (both u l in40 m hl hm (sym (split q 64)) e40) e96) in

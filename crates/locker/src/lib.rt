@@ -9,7 +9,7 @@ ghost use Rattle.std.specs.Prelude.{◌≡◌, true, [], length};
 ghost use Rattle.answers.specs.Answers.{afterwards, number_said, value_out, place_out};
 ghost use Rattle.fields.specs.Runs.{over};
 ghost use Rattle.checksum.specs.Catalogue.{crc16, crc_from};
-ghost use Rattle.header.specs.Header.{read_of as headerRead, write_of, header_of};
+ghost use Rattle.header.specs.Header.{read_of as header_read, write_of, header_of};
 ghost use Rattle.read.specs.Reading.{read_in};
 ghost use Rattle.append.specs.Bytes.{item};
 ghost use Rattle.append.specs.Append.{data_kind};
@@ -53,7 +53,7 @@ pub extern "C" fn locker_update(state: u16, bytes: &[u8]) -> u16
 
 #[unsafe(no_mangle)]
 pub extern "C" fn locker_read_header(header: &[u8], version: &mut u64, ordinal: &mut u64) -> u32
-    ensures { (result ≡ number_said (headerRead header.now)) × ((version.new, ordinal.new) ≡ value_out (headerRead header.now) (version.old, ordinal.old)) }
+    ensures { (result ≡ number_said (header_read header.now)) × ((version.new, ordinal.new) ≡ value_out (header_read header.now) (version.old, ordinal.old)) }
 {
     let answer = header::read_header(header);
     match answer {

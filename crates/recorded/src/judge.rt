@@ -10,13 +10,14 @@ pub struct Record {
     pub operation: u64,
 }
 
-pub fn write(rt: &impl Print, text: &str) -> io::Result<()> {
-    rt.print(text)
+pub fn write(rt: &impl Print, text: &[u8]) -> io::Result<()> {
+    rt.write_all(text)
 }
 
 // A number and the words before it.
-pub fn number(rt: &impl Print, before: &str, n: u64) -> io::Result<()> {
-    print!(rt; "{before}{n}")
+pub fn number(rt: &impl Print, before: &[u8], n: u64) -> io::Result<()> {
+    rt.write_all(before)?;
+    rt.print(n)
 }
 
 pub fn write_name(rt: &impl Print, operation: u64) -> io::Result<()> {
@@ -55,22 +56,22 @@ pub const ONLY: usize = 1000000000;
 fn write_difference(
     rt: &impl Print,
     record: Record,
-    what: &str,
+    what: &[u8],
     place: usize,
     expected: u64,
     answered: u64,
 ) -> io::Result<()> {
-    number(rt, "record ", record.index as u64)?;
-    write(rt, " ")?;
+    number(rt, b"record ", record.index as u64)?;
+    write(rt, b" ")?;
     write_name(rt, record.operation)?;
-    write(rt, " ")?;
+    write(rt, b" ")?;
     write(rt, what)?;
     if place < ONLY {
-        number(rt, " ", place as u64)?;
+        number(rt, b" ", place as u64)?;
     }
-    number(rt, ": expected ", expected)?;
-    number(rt, ", but was ", answered)?;
-    write(rt, "\n")
+    number(rt, b": expected ", expected)?;
+    number(rt, b", but was ", answered)?;
+    write(rt, b"\n")
 }
 
 // Whether a part of the answer, or of what the call left, is as recorded. Parts of a kind are
@@ -78,7 +79,7 @@ fn write_difference(
 pub fn same(
     rt: &impl Print,
     record: Record,
-    what: &str,
+    what: &[u8],
     place: usize,
     expected: u64,
     answered: u64,
@@ -131,7 +132,7 @@ fn same_values(
     let mut i = 0;
     while i < count {
         let right = cursor::listed(values, i);
-        if !same(rt, record, "value", i, right, said::value_of(answered, i))? {
+        if !same(rt, record, b"value", i, right, said::value_of(answered, i))? {
             return Ok(false);
         }
         i += 1;
@@ -146,12 +147,19 @@ pub fn same_said(
     recorded: Recorded,
     answered: Said,
 ) -> io::Result<bool> {
-    let number = same(rt, record, "number", ONLY, recorded.number, answered.number)?;
+    let number = same(
+        rt,
+        record,
+        b"number",
+        ONLY,
+        recorded.number,
+        answered.number,
+    )?;
     let count = recorded.count;
     let many = same(
         rt,
         record,
-        "count of values",
+        b"count of values",
         ONLY,
         count as u64,
         answered.count as u64,
@@ -178,7 +186,7 @@ pub fn same_bytes(
         if !same(
             rt,
             record,
-            "byte",
+            b"byte",
             i,
             cursor::byte(expected, i),
             cursor::byte(left, i),

@@ -133,9 +133,9 @@ fn replay_records(
 
 fn write_line(rt: &impl Print, operation: u64, replayed: u64, agreed: u64) -> io::Result<()> {
     judge::write_name(rt, operation)?;
-    judge::number(rt, " ", replayed)?;
-    judge::number(rt, " ", agreed)?;
-    judge::write(rt, "\n")
+    judge::number(rt, b" ", replayed)?;
+    judge::number(rt, b" ", agreed)?;
+    judge::write(rt, b"\n")
 }
 
 fn write_table(rt: &impl Print, tally: Tally) -> io::Result<()> {
@@ -164,21 +164,21 @@ fn write_malformed(rt: &impl Print, record: u64, c: Cursor) -> io::Result<()> {
         the end mark is missing              \
         bytes follow the end mark            \
         a grid hasn't 768 bytes              ";
-    judge::number(rt, "malformed: record ", record)?;
-    judge::number(rt, ", byte ", c.at as u64)?;
-    judge::write(rt, ": ")?;
+    judge::number(rt, b"malformed: record ", record)?;
+    judge::number(rt, b", byte ", c.at as u64)?;
+    judge::write(rt, b": ")?;
     let fault = c.fault;
     if fault < 15 {
         rt.write_all(cursor::part(faults, fault as usize * 37, 37))?;
     }
-    judge::write(rt, "\n")
+    judge::write(rt, b"\n")
 }
 
 fn write_verdict(rt: &impl Print, replayed: u64, agreed: u64) -> io::Result<()> {
     if replayed == agreed {
-        return judge::write(rt, "every recorded answer is given\n");
+        return judge::write(rt, b"every recorded answer is given\n");
     }
-    judge::write(rt, "NOT every recorded answer is given\n")
+    judge::write(rt, b"NOT every recorded answer is given\n")
 }
 
 // ---- the file

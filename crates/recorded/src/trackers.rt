@@ -161,7 +161,7 @@ fn same_slot(
     let number = judge::same(
         rt,
         record,
-        "number in slot",
+        b"number in slot",
         shard,
         expected.number,
         is.number,
@@ -169,7 +169,7 @@ fn same_slot(
     let ordinal = judge::same(
         rt,
         record,
-        "ordinal in slot",
+        b"ordinal in slot",
         shard,
         expected.ordinal,
         is.ordinal,
@@ -177,7 +177,7 @@ fn same_slot(
     let offset = judge::same(
         rt,
         record,
-        "offset in slot",
+        b"offset in slot",
         shard,
         expected.offset,
         is.offset,
@@ -199,7 +199,7 @@ fn same_shard(
     let lengths = judge::same(
         rt,
         record,
-        "how many wait on shard",
+        b"how many wait on shard",
         shard,
         expected.lengths[shard] as u64,
         is.lengths[shard] as u64,
@@ -241,7 +241,7 @@ fn same_delta(
     judge::same(
         rt,
         record,
-        "delta in waiting place",
+        b"delta in waiting place",
         place,
         right,
         delta_complement(is),
@@ -264,7 +264,7 @@ fn same_queues<'a>(
             let number = judge::same(
                 rt,
                 record,
-                "number in waiting place",
+                b"number in waiting place",
                 i,
                 numbers[i],
                 numbers_now[i],
@@ -281,7 +281,7 @@ fn same_state(rt: &impl Print, record: Record, expected: Tracker, is: Tracker) -
     let next = judge::same(
         rt,
         record,
-        "next number",
+        b"next number",
         judge::ONLY,
         expected.next,
         is.next,
@@ -451,7 +451,7 @@ fn state(
     let sound = tracker::is_sound(recorded) as u64;
     Ok(ended(
         end,
-        judge::same(rt, record, "soundness", judge::ONLY, 1, sound)?,
+        judge::same(rt, record, b"soundness", judge::ONLY, 1, sound)?,
         recorded,
     ))
 }

@@ -12,7 +12,7 @@ use Rattle.scan.specs.declared.Walked.TheVariants.{Found, End, Refused, UnknownA
 use Rattle.scan.proofs.key_of.Kinds as key-of-kinds
 use Rattle.scan.proofs.key_of.Reads as key_of
 use Rattle.scan.proofs.value_of.Kinds as value-of-kinds
-use Rattle.scan.proofs.value_of.Reads as value_of_lem
+use Rattle.scan.proofs.value_of.Reads as value-of-reads
 use Rattle.scan.proofs.walk.Kinds as walk-kinds
 use Rattle.scan.proofs.walk.Reads as walk
 
@@ -42,5 +42,5 @@ walk_only κs args r s x y hr hs = said_once r s (hr ∙ sym hs)
 pub key_of_only : Agree 1 key-of-kinds.ps key-of-kinds.r key_of.Post (λ κs r s x y. (r.now ≡ s.now) × (r.ref_ptr.0 ≡ s.ref_ptr.0) × (r.ref_ptr.1 ≡ s.ref_ptr.1))
 key_of_only κs args r s x y hr hs = (hr.0 ∙ sym hs.0, hr.1.0 ∙ sym hs.1.0, hr.1.1 ∙ sym hs.1.1)
 
-pub value_of_only : Agree 1 value-of-kinds.ps value-of-kinds.r value_of_lem.Post (λ κs r s x y. (r.now ≡ s.now) × (r.ref_ptr.0 ≡ s.ref_ptr.0) × (r.ref_ptr.1 ≡ s.ref_ptr.1))
+pub value_of_only : Agree 1 value-of-kinds.ps value-of-kinds.r value-of-reads.Post (λ κs r s x y. (r.now ≡ s.now) × (r.ref_ptr.0 ≡ s.ref_ptr.0) × (r.ref_ptr.1 ≡ s.ref_ptr.1))
 value_of_only κs args r s x y hr hs = (hr.0 ∙ sym hs.0, hr.1.0 ∙ sym hs.1.0, hr.1.1 ∙ sym hs.1.1)

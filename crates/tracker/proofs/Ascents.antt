@@ -20,14 +20,14 @@ and_both : (a b : Bool) → a ≡ true → b ≡ true → a && b ≡ true
 and_both a b e f = rw (e, f)
 
 -- w is above none of ws
-abbrev at_most : Waiting → List Waiting → Bool
-at_most w ws = every (λ (x : Waiting). leb w.number x.number) ws
+abbrev at_most_each : Waiting → List Waiting → Bool
+at_most_each w ws = every (λ (x : Waiting). leb w.number x.number) ws
 
 -- above none of an ascending queue, by its first alone
-at_most_all : (w x : Waiting) (q : List Waiting) → w.number ≤ x.number → ascends (x ∷ q) ≡ true → at_most w (x ∷ q) ≡ true
-at_most_all w x q h e = and_both (leb w.number x.number) (at_most w q) (le-leb _ _ h)
+at_most_all : (w x : Waiting) (q : List Waiting) → w.number ≤ x.number → ascends (x ∷ q) ≡ true → at_most_each w (x ∷ q) ≡ true
+at_most_all w x q h e = and_both (leb w.number x.number) (at_most_each w q) (le-leb _ _ h)
     (every_weaker (λ (y : Waiting). leb x.number y.number) (λ (y : Waiting). leb w.number y.number)
-    (λ y p. le-leb w.number y.number (let g : x.number ≤ y.number = leb-true _ _ p in omega arith)) q (and_left (at_most x q) (ascends q) e))
+    (λ y p. le-leb w.number y.number (let g : x.number ≤ y.number = leb-true _ _ p in omega arith)) q (and_left (at_most_each x q) (ascends q) e))
 
 -- ---- neighbours
 
@@ -55,17 +55,17 @@ module _ (f : ℕ → Waiting) where
   run_ascends a (suc zero) h = refl
   run_ascends a (suc (suc n)) h =
       let rest = run_ascends (suc a) (suc n) (λ j p. rises_on a j (h (suc j) (omega arith))) in
-      and_both (at_most (f a) (seg f (suc a) (suc n))) (ascends (seg f (suc a) (suc n)))
+      and_both (at_most_each (f a) (seg f (suc a) (suc n))) (ascends (seg f (suc a) (suc n)))
       (at_most_all (f a) (f (suc a)) (seg f (suc (suc a)) n) (rises_first a (h 0 (omega arith))) rest) rest
 
   ascends_run : (a n : ℕ) → ascends (seg f a n) ≡ true → (j : ℕ) → j < n - 1 → Rises a j
   ascends_run a zero e j h = absurd (omega arith)
   ascends_run a (suc zero) e j h = absurd (omega arith)
   ascends_run a (suc (suc n)) e zero h =
-      first_rises a (leb-true _ _ (and_left (leb (f a).number (f (suc a)).number) (at_most (f a) (seg f (suc (suc a)) n))
-      (and_left (at_most (f a) (seg f (suc a) (suc n))) (ascends (seg f (suc a) (suc n))) e)))
+      first_rises a (leb-true _ _ (and_left (leb (f a).number (f (suc a)).number) (at_most_each (f a) (seg f (suc (suc a)) n))
+      (and_left (at_most_each (f a) (seg f (suc a) (suc n))) (ascends (seg f (suc a) (suc n))) e)))
   ascends_run a (suc (suc n)) e (suc j) h =
-      rises_back a j (ascends_run (suc a) (suc n) (and_right (at_most (f a) (seg f (suc a) (suc n))) (ascends (seg f (suc a) (suc n))) e) j (omega arith))
+      rises_back a j (ascends_run (suc a) (suc n) (and_right (at_most_each (f a) (seg f (suc a) (suc n))) (ascends (seg f (suc a) (suc n))) e) j (omega arith))
 
 -- a queue ascends exactly if its neighbours do
 pub ascends_all : (ns : List ℕ) (ds : List ℤ) (base n : ℕ) → ascends (run ns ds base n) ≡ neighbours_ascend ns base n
@@ -113,15 +113,15 @@ module _ (numbers : List ℕ) (base count : ℕ) (e : neighbours_ascend numbers 
 pub ascends_snoc : (q : List Waiting) (w : Waiting) → ascends q ≡ true → every (λ (x : Waiting). leb x.number w.number) q ≡ true → ascends (q ++ (w ∷ [])) ≡ true
 ascends_snoc [] w e h = refl
 ascends_snoc (x ∷ q) w e h =
-    and_both (at_most x (q ++ (w ∷ []))) (ascends (q ++ (w ∷ [])))
+    and_both (at_most_each x (q ++ (w ∷ []))) (ascends (q ++ (w ∷ [])))
     (every_snoc (λ (y : Waiting). leb x.number y.number) q w
-    ∙ and_both (at_most x q) (leb x.number w.number) (and_left (at_most x q) (ascends q) e) (and_left (leb x.number w.number) _ h))
-    (ascends_snoc q w (and_right (at_most x q) (ascends q) e) (and_right (leb x.number w.number) _ h))
+    ∙ and_both (at_most_each x q) (leb x.number w.number) (and_left (at_most_each x q) (ascends q) e) (and_left (leb x.number w.number) _ h))
+    (ascends_snoc q w (and_right (at_most_each x q) (ascends q) e) (and_right (leb x.number w.number) _ h))
 
 pub ascends_drop : (n : ℕ) (q : List Waiting) → ascends q ≡ true → ascends (drop n q) ≡ true
 ascends_drop zero q e = e
 ascends_drop (suc n) [] e = e
-ascends_drop (suc n) (x ∷ q) e = ascends_drop n q (and_right (at_most x q) (ascends q) e)
+ascends_drop (suc n) (x ∷ q) e = ascends_drop n q (and_right (at_most_each x q) (ascends q) e)
 
 pub every_behind : (p : Waiting → Bool) (w : Waiting) (q : List Waiting) → p w ≡ true → every p q ≡ true → every p (behind_equals w q) ≡ true
 every_behind p w [] a b = and_both (p w) true a refl
@@ -141,13 +141,13 @@ length_behind w (x ∷ q) = by (ltb w.number x.number) (length_behind w q)
 
 pub ascends_behind : (w : Waiting) (q : List Waiting) → ascends q ≡ true → ascends (behind_equals w q) ≡ true
 ascends_behind w [] e = refl
-ascends_behind w (x ∷ q) e = by (ltb w.number x.number) refl (ascends_behind w q (and_right (at_most x q) (ascends q) e))
+ascends_behind w (x ∷ q) e = by (ltb w.number x.number) refl (ascends_behind w q (and_right (at_most_each x q) (ascends q) e))
   where
     by : (c : Bool) → ltb w.number x.number ≡ c → ascends (behind_equals w q) ≡ true → ascends (cond c (w ∷ x ∷ q) (x ∷ behind_equals w q)) ≡ true
-    by true ec r = and_both (at_most w (x ∷ q)) (ascends (x ∷ q)) (at_most_all w x q (let h : w.number < x.number = ltb-true _ _ ec in omega arith) e) e
+    by true ec r = and_both (at_most_each w (x ∷ q)) (ascends (x ∷ q)) (at_most_all w x q (let h : w.number < x.number = ltb-true _ _ ec in omega arith) e) e
     by false ec r =
-        and_both (at_most x (behind_equals w q)) (ascends (behind_equals w q))
-        (every_behind (λ (y : Waiting). leb x.number y.number) w q (le-leb x.number w.number (ltb-false _ _ ec)) (and_left (at_most x q) (ascends q) e)) r
+        and_both (at_most_each x (behind_equals w q)) (ascends (behind_equals w q))
+        (every_behind (λ (y : Waiting). leb x.number y.number) w q (le-leb x.number w.number (ltb-false _ _ ec)) (and_left (at_most_each x q) (ascends q) e)) r
 
 -- ---- where the insertion puts its delta
 
@@ -163,7 +163,7 @@ between w (x ∷ front) back a b =
 -- an ascending queue has such a place
 pub put_by_number : (w : Waiting) (q : List Waiting) → ascends q ≡ true → PutByNumber w q (behind_equals w q)
 put_by_number w [] e = record { front = []; back = []; was = refl; none_larger = refl; all_larger = refl; is = refl }
-put_by_number w (x ∷ q) e = by (ltb w.number x.number) refl (put_by_number w q (and_right (at_most x q) (ascends q) e))
+put_by_number w (x ∷ q) e = by (ltb w.number x.number) refl (put_by_number w q (and_right (at_most_each x q) (ascends q) e))
   where
     by : (c : Bool) → ltb w.number x.number ≡ c → PutByNumber w q (behind_equals w q) → PutByNumber w (x ∷ q) (cond c (w ∷ x ∷ q) (x ∷ behind_equals w q))
     by true ec r = record {
@@ -174,7 +174,7 @@ put_by_number w (x ∷ q) e = by (ltb w.number x.number) refl (put_by_number w q
       all_larger = and_both (ltb w.number x.number) _ ec
           (every_weaker (λ (y : Waiting). leb x.number y.number) (λ (y : Waiting). ltb w.number y.number)
           (λ y p. lt-ltb w.number y.number (let h : w.number < x.number = ltb-true _ _ ec in let g : x.number ≤ y.number = leb-true _ _ p in omega arith)) q
-          (and_left (at_most x q) (ascends q) e));
+          (and_left (at_most_each x q) (ascends q) e));
       is = refl;
     }
     by false ec r = record {
@@ -197,32 +197,32 @@ behind_all w (x ∷ q) h =
 
 module _ (limit : ℕ) where
   -- behind a number at or above the limit none is below it
-  none_below : (w : Waiting) (q : List Waiting) → limit ≤ w.number → at_most w q ≡ true → below limit q ≡ []
+  none_below : (w : Waiting) (q : List Waiting) → limit ≤ w.number → at_most_each w q ≡ true → below limit q ≡ []
   none_below w [] h e = refl
   none_below w (x ∷ q) h e =
-      let g : w.number ≤ x.number = leb-true _ _ (and_left (leb w.number x.number) (at_most w q) e) in
-      rw (le-ltb x.number limit (omega arith)) (none_below w q h (and_right (leb w.number x.number) (at_most w q) e))
+      let g : w.number ≤ x.number = leb-true _ _ (and_left (leb w.number x.number) (at_most_each w q) e) in
+      rw (le-ltb x.number limit (omega arith)) (none_below w q h (and_right (leb w.number x.number) (at_most_each w q) e))
 
-  all_left : (w : Waiting) (q : List Waiting) → limit ≤ w.number → at_most w q ≡ true → not_below limit q ≡ q
+  all_left : (w : Waiting) (q : List Waiting) → limit ≤ w.number → at_most_each w q ≡ true → not_below limit q ≡ q
   all_left w [] h e = refl
   all_left w (x ∷ q) h e =
-      let g : w.number ≤ x.number = leb-true _ _ (and_left (leb w.number x.number) (at_most w q) e) in
-      rw (le-ltb x.number limit (omega arith)) (ap (λ (l : List Waiting). x ∷ l) (all_left w q h (and_right (leb w.number x.number) (at_most w q) e)))
+      let g : w.number ≤ x.number = leb-true _ _ (and_left (leb w.number x.number) (at_most_each w q) e) in
+      rw (le-ltb x.number limit (omega arith)) (ap (λ (l : List Waiting). x ∷ l) (all_left w q h (and_right (leb w.number x.number) (at_most_each w q) e)))
 
   pub front_sum : (q : List Waiting) → ascends q ≡ true → sum_front limit q ≡ sum_deltas (below limit q)
   front_sum [] e = refl
-  front_sum (w ∷ q) e = by (ltb w.number limit) refl (front_sum q (and_right (at_most w q) (ascends q) e))
+  front_sum (w ∷ q) e = by (ltb w.number limit) refl (front_sum q (and_right (at_most_each w q) (ascends q) e))
     where
       by : (c : Bool) → ltb w.number limit ≡ c → sum_front limit q ≡ sum_deltas (below limit q)
           → cond c (w.delta +ℤ sum_front limit q) (pos 0) ≡ sum_deltas (cond c (w ∷ below limit q) (below limit q))
       by true ec r = ap (λ (z : ℤ). w.delta +ℤ z) r
-      by false ec r = sym (ap sum_deltas (none_below w q (ltb-false _ _ ec) (and_left (at_most w q) (ascends q) e)))
+      by false ec r = sym (ap sum_deltas (none_below w q (ltb-false _ _ ec) (and_left (at_most_each w q) (ascends q) e)))
 
   pub front_rest : (q : List Waiting) → ascends q ≡ true → past_front limit q ≡ not_below limit q
   front_rest [] e = refl
-  front_rest (w ∷ q) e = by (ltb w.number limit) refl (front_rest q (and_right (at_most w q) (ascends q) e))
+  front_rest (w ∷ q) e = by (ltb w.number limit) refl (front_rest q (and_right (at_most_each w q) (ascends q) e))
     where
       by : (c : Bool) → ltb w.number limit ≡ c → past_front limit q ≡ not_below limit q
           → drop (cond c (suc (count_front limit q)) 0) (w ∷ q) ≡ cond c (not_below limit q) (w ∷ not_below limit q)
       by true ec r = r
-      by false ec r = ap (λ (l : List Waiting). w ∷ l) (sym (all_left w q (ltb-false _ _ ec) (and_left (at_most w q) (ascends q) e)))
+      by false ec r = ap (λ (l : List Waiting). w ∷ l) (sym (all_left w q (ltb-false _ _ ec) (and_left (at_most_each w q) (ascends q) e)))

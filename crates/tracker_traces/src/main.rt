@@ -14,16 +14,16 @@ use tracker::{
 
 // ---- words and numbers
 
-fn say(rt: &impl Print, words: &str) -> io::Result<()> {
-    rt.print(words)
+fn say(rt: &impl Print, words: &[u8]) -> io::Result<()> {
+    rt.write_all(words)
 }
 
 fn number(rt: &impl Print, n: u64) -> io::Result<()> {
     rt.print(n)
 }
 
-fn shard_does(rt: &impl Print, shard: usize, does: &str) -> io::Result<()> {
-    say(rt, "shard ")?;
+fn shard_does(rt: &impl Print, shard: usize, does: &[u8]) -> io::Result<()> {
+    say(rt, b"shard ")?;
     number(rt, shard as u64)?;
     say(rt, does)
 }
@@ -32,9 +32,9 @@ fn shard_does(rt: &impl Print, shard: usize, does: &str) -> io::Result<()> {
 fn signed(rt: &impl Print, n: i64) -> io::Result<()> {
     if n < 0 {
         if n < -1_000_000 {
-            return say(rt, "far below 0");
+            return say(rt, b"far below 0");
         }
-        say(rt, "-")?;
+        say(rt, b"-")?;
         return number(rt, (0 - n) as u64);
     }
     number(rt, n as u64)
@@ -45,12 +45,12 @@ fn change(rt: &impl Print, delta: i8) -> io::Result<()> {
 }
 
 fn refused(rt: &impl Print, refusal: Refusal) -> io::Result<()> {
-    say(rt, "refused ")?;
+    say(rt, b"refused ")?;
     number(rt, answers::number(refusal) as u64)
 }
 
 fn line(rt: &impl Print) -> io::Result<()> {
-    say(rt, "\n")
+    say(rt, b"\n")
 }
 
 // ---- one call each
@@ -65,18 +65,18 @@ fn reserve(
     sealed: bool,
     length: u64,
 ) -> io::Result<Tracker> {
-    shard_does(rt, shard, " reserves ")?;
+    shard_does(rt, shard, b" reserves ")?;
     number(rt, length)?;
-    say(rt, " in file ")?;
+    say(rt, b" in file ")?;
     number(rt, ordinal)?;
-    say(rt, ", used ")?;
+    say(rt, b", used ")?;
     number(rt, used)?;
-    say(rt, " of ")?;
+    say(rt, b" of ")?;
     number(rt, capacity)?;
     if sealed {
-        say(rt, " sealed")?;
+        say(rt, b" sealed")?;
     }
-    say(rt, ": ")?;
+    say(rt, b": ")?;
     let r = tracker::reserve(before, shard, ordinal, used, capacity, sealed, length);
     let answer = r.answer;
     match answer {
@@ -85,11 +85,11 @@ fn reserve(
             place,
             used: now,
         } => {
-            say(rt, "number ")?;
+            say(rt, b"number ")?;
             number(rt, taken)?;
-            say(rt, ", place ")?;
+            say(rt, b", place ")?;
             number(rt, place)?;
-            say(rt, ", used ")?;
+            say(rt, b", used ")?;
             number(rt, now)?;
         }
         ReserveAnswer::Refused(refusal) => refused(rt, refusal)?,
@@ -99,14 +99,14 @@ fn reserve(
 }
 
 fn record(rt: &impl Print, before: Tracker, shard: usize, delta: i8) -> io::Result<Tracker> {
-    shard_does(rt, shard, " records ")?;
+    shard_does(rt, shard, b" records ")?;
     change(rt, delta)?;
-    say(rt, ": ")?;
+    say(rt, b": ")?;
     let r = tracker::record(before, shard, delta);
     let answer = r.answer;
     match answer {
         RecordAnswer::Recorded { number: taken } => {
-            say(rt, "number ")?;
+            say(rt, b"number ")?;
             number(rt, taken)?;
         }
         RecordAnswer::Refused(refusal) => refused(rt, refusal)?,
@@ -117,8 +117,8 @@ fn record(rt: &impl Print, before: Tracker, shard: usize, delta: i8) -> io::Resu
 
 fn finished(rt: &impl Print, answer: FinishAnswer) -> io::Result<()> {
     match answer {
-        FinishAnswer::Done => say(rt, "done")?,
-        FinishAnswer::Stale => say(rt, "stale")?,
+        FinishAnswer::Done => say(rt, b"done")?,
+        FinishAnswer::Stale => say(rt, b"stale")?,
         FinishAnswer::Refused(refusal) => refused(rt, refusal)?,
     }
     line(rt)
@@ -131,11 +131,11 @@ fn complete(
     which: u64,
     delta: i8,
 ) -> io::Result<Tracker> {
-    shard_does(rt, shard, " completes number ")?;
+    shard_does(rt, shard, b" completes number ")?;
     number(rt, which)?;
-    say(rt, " with ")?;
+    say(rt, b" with ")?;
     change(rt, delta)?;
-    say(rt, ": ")?;
+    say(rt, b": ")?;
     let r = tracker::complete(before, shard, which, delta);
     let answer = r.answer;
     finished(rt, answer)?;
@@ -143,9 +143,9 @@ fn complete(
 }
 
 fn abandon(rt: &impl Print, before: Tracker, shard: usize, which: u64) -> io::Result<Tracker> {
-    shard_does(rt, shard, " abandons number ")?;
+    shard_does(rt, shard, b" abandons number ")?;
     number(rt, which)?;
-    say(rt, ": ")?;
+    say(rt, b": ")?;
     let r = tracker::abandon(before, shard, which);
     let answer = r.answer;
     finished(rt, answer)?;
@@ -153,19 +153,19 @@ fn abandon(rt: &impl Print, before: Tracker, shard: usize, which: u64) -> io::Re
 }
 
 fn cursor(rt: &impl Print, ordinal: u64, offset: u64) -> io::Result<()> {
-    say(rt, "cursor (")?;
+    say(rt, b"cursor (")?;
     number(rt, ordinal)?;
-    say(rt, ", ")?;
+    say(rt, b", ")?;
     number(rt, offset)?;
-    say(rt, "), limit ")
+    say(rt, b"), limit ")
 }
 
 fn checkpoint(rt: &impl Print, state: Tracker, ordinal: u64, used: u64) -> io::Result<()> {
-    say(rt, "checkpoint with file ")?;
+    say(rt, b"checkpoint with file ")?;
     number(rt, ordinal)?;
-    say(rt, ", used ")?;
+    say(rt, b", used ")?;
     number(rt, used)?;
-    say(rt, ": ")?;
+    say(rt, b": ")?;
     match tracker::checkpoint(state, ordinal, used) {
         CheckpointAnswer::Progress {
             ordinal: file,
@@ -176,12 +176,12 @@ fn checkpoint(rt: &impl Print, state: Tracker, ordinal: u64, used: u64) -> io::R
         } => {
             cursor(rt, file, offset)?;
             number(rt, limit)?;
-            say(rt, ", sum ")?;
+            say(rt, b", sum ")?;
             signed(rt, sum)?;
             if pending {
-                say(rt, ", pending")?;
+                say(rt, b", pending")?;
             } else {
-                say(rt, ", nothing pending")?;
+                say(rt, b", nothing pending")?;
             }
         }
         CheckpointAnswer::Refused(refusal) => refused(rt, refusal)?,
@@ -190,14 +190,14 @@ fn checkpoint(rt: &impl Print, state: Tracker, ordinal: u64, used: u64) -> io::R
 }
 
 fn drain(rt: &impl Print, before: Tracker, limit: u64) -> io::Result<Tracker> {
-    say(rt, "drain below ")?;
+    say(rt, b"drain below ")?;
     number(rt, limit)?;
-    say(rt, ": ")?;
+    say(rt, b": ")?;
     let r = tracker::drain(before, limit);
     let answer = r.answer;
     match answer {
         DrainAnswer::Drained { sum } => {
-            say(rt, "sum ")?;
+            say(rt, b"sum ")?;
             signed(rt, sum)?;
         }
         DrainAnswer::Refused(refusal) => refused(rt, refusal)?,
@@ -207,11 +207,11 @@ fn drain(rt: &impl Print, before: Tracker, limit: u64) -> io::Result<Tracker> {
 }
 
 fn clear(rt: &impl Print, before: Tracker) -> io::Result<Tracker> {
-    say(rt, "clear: ")?;
+    say(rt, b"clear: ")?;
     let r = tracker::clear(before);
     let answer = r.answer;
     match answer {
-        ClearAnswer::Cleared => say(rt, "cleared")?,
+        ClearAnswer::Cleared => say(rt, b"cleared")?,
         ClearAnswer::Refused(refusal) => refused(rt, refusal)?,
     }
     line(rt)?;
@@ -220,13 +220,13 @@ fn clear(rt: &impl Print, before: Tracker) -> io::Result<Tracker> {
 
 // How many deltas wait on shards 0 and 1, and the next number.
 fn state(rt: &impl Print, now: Tracker) -> io::Result<()> {
-    say(rt, "  now ")?;
+    say(rt, b"  now ")?;
     let first = now.lengths[0];
     number(rt, first as u64)?;
-    say(rt, " wait on shard 0, ")?;
+    say(rt, b" wait on shard 0, ")?;
     let second = now.lengths[1];
     number(rt, second as u64)?;
-    say(rt, " on shard 1, the next number is ")?;
+    say(rt, b" on shard 1, the next number is ")?;
     number(rt, now.next)?;
     line(rt)
 }
@@ -234,7 +234,7 @@ fn state(rt: &impl Print, now: Tracker) -> io::Result<()> {
 // ---- traces
 
 fn trial(rt: &impl Print) -> io::Result<()> {
-    say(rt, "-- document 01's trial, with request 6's sum\n")?;
+    say(rt, b"-- document 01's trial, with request 6's sum\n")?;
     let mut t = tracker::fresh();
     checkpoint(rt, t, 7, 0)?;
     t = reserve(rt, t, 0, 7, 0, 4096, false, 16)?;
@@ -247,7 +247,7 @@ fn trial(rt: &impl Print) -> io::Result<()> {
 
 // What waits on a shard, from the front of its queue on: each number with its delta.
 fn waiting(rt: &impl Print, now: Tracker, shard: usize) -> io::Result<()> {
-    shard_does(rt, shard, " has waiting")?;
+    shard_does(rt, shard, b" has waiting")?;
     if 15 < shard {
         return Ok(());
     }
@@ -255,11 +255,11 @@ fn waiting(rt: &impl Print, now: Tracker, shard: usize) -> io::Result<()> {
     let mut i: usize = 0;
     while i < 32 {
         if i < count {
-            say(rt, " (")?;
+            say(rt, b" (")?;
             number(rt, now.numbers[shard * 32 + i])?;
-            say(rt, ", ")?;
+            say(rt, b", ")?;
             change(rt, now.deltas[shard * 32 + i])?;
-            say(rt, ")")?;
+            say(rt, b")")?;
         }
         i += 1;
     }
@@ -270,7 +270,7 @@ fn waiting(rt: &impl Print, now: Tracker, shard: usize) -> io::Result<()> {
 fn in_order(rt: &impl Print) -> io::Result<()> {
     say(
         rt,
-        "-- the sum takes every number below the limit; so does the drain\n",
+        b"-- the sum takes every number below the limit; so does the drain\n",
     )?;
     let mut t = tracker::fresh();
     t = reserve(rt, t, 0, 7, 0, 4096, false, 16)?;
@@ -309,7 +309,7 @@ fn with_equals(open: u64) -> Tracker {
 }
 
 fn behind_equals(rt: &impl Print) -> io::Result<()> {
-    say(rt, "-- a completed delta goes in behind its equals\n")?;
+    say(rt, b"-- a completed delta goes in behind its equals\n")?;
     let mut t = with_equals(4);
     waiting(rt, t, 0)?;
     t = complete(rt, t, 0, 4, 5)?;
@@ -327,7 +327,7 @@ fn behind_equals(rt: &impl Print) -> io::Result<()> {
 fn drain_in_the_middle(rt: &impl Print) -> io::Result<()> {
     say(
         rt,
-        "-- a drain in the middle of a queue, and the places used again\n",
+        b"-- a drain in the middle of a queue, and the places used again\n",
     )?;
     let mut t = tracker::fresh();
     t = record(rt, t, 0, 1)?;
@@ -358,7 +358,7 @@ fn filled(before: Tracker, count: usize) -> Tracker {
 }
 
 fn full_queue(rt: &impl Print) -> io::Result<()> {
-    say(rt, "-- a full queue: 32 wait on shard 0\n")?;
+    say(rt, b"-- a full queue: 32 wait on shard 0\n")?;
     let mut t = filled(tracker::fresh(), 31);
     state(rt, t)?;
     t = record(rt, t, 0, 1)?;
@@ -369,7 +369,7 @@ fn full_queue(rt: &impl Print) -> io::Result<()> {
     t = drain(rt, t, 5)?;
     t = reserve(rt, t, 0, 7, 0, 4096, false, 16)?;
     state(rt, t)?;
-    say(rt, "-- beside an open slot the room is 31\n")?;
+    say(rt, b"-- beside an open slot the room is 31\n")?;
     t = filled(t, 3);
     state(rt, t)?;
     t = record(rt, t, 0, 1)?;
@@ -382,7 +382,7 @@ fn full_queue(rt: &impl Print) -> io::Result<()> {
 fn overwritten(rt: &impl Print) -> io::Result<()> {
     say(
         rt,
-        "-- an open slot is overwritten; its number is stale then\n",
+        b"-- an open slot is overwritten; its number is stale then\n",
     )?;
     let mut t = tracker::fresh();
     t = reserve(rt, t, 3, 9, 64, 4096, false, 32)?;
@@ -397,7 +397,7 @@ fn overwritten(rt: &impl Print) -> io::Result<()> {
 }
 
 fn finishing(rt: &impl Print) -> io::Result<()> {
-    say(rt, "-- complete and abandon\n")?;
+    say(rt, b"-- complete and abandon\n")?;
     let mut t = tracker::fresh();
     t = complete(rt, t, 0, 0, 1)?;
     t = abandon(rt, t, 0, 0)?;
@@ -418,7 +418,7 @@ fn finishing(rt: &impl Print) -> io::Result<()> {
 fn cursors(rt: &impl Print) -> io::Result<()> {
     say(
         rt,
-        "-- the cursor goes by ordinal, then offset; the limit goes by number\n",
+        b"-- the cursor goes by ordinal, then offset; the limit goes by number\n",
     )?;
     let mut t = tracker::fresh();
     t = reserve(rt, t, 5, 9, 16, 4096, false, 16)?;
@@ -437,7 +437,7 @@ fn cursors(rt: &impl Print) -> io::Result<()> {
 fn reserve_refusals(rt: &impl Print) -> io::Result<()> {
     say(
         rt,
-        "-- reserve's refusals, one by one and before and after their limit\n",
+        b"-- reserve's refusals, one by one and before and after their limit\n",
     )?;
     let mut t = tracker::fresh();
     t = reserve(rt, t, 15, 7, 0, 4096, false, 16)?;
@@ -458,7 +458,7 @@ fn reserve_refusals(rt: &impl Print) -> io::Result<()> {
 }
 
 fn wide_sums(rt: &impl Print) -> io::Result<()> {
-    say(rt, "-- used count + length is never wrapped\n")?;
+    say(rt, b"-- used count + length is never wrapped\n")?;
     let mut t = tracker::fresh();
     t = reserve(rt, t, 0, 7, 18446744073709551600, 4096, false, 16)?;
     t = reserve(rt, t, 0, 7, 16, 4096, false, 18446744073709551600)?;
@@ -470,7 +470,7 @@ fn wide_sums(rt: &impl Print) -> io::Result<()> {
 fn order_of_refusals(rt: &impl Print) -> io::Result<()> {
     say(
         rt,
-        "-- the order of reserve's refusals: each call has every later fault too\n",
+        b"-- the order of reserve's refusals: each call has every later fault too\n",
     )?;
     let mut t = filled(tracker::fresh(), 32);
     t.next = 0;
@@ -489,7 +489,7 @@ fn order_of_refusals(rt: &impl Print) -> io::Result<()> {
 }
 
 fn order_of_record(rt: &impl Print) -> io::Result<()> {
-    say(rt, "-- the order of record's refusals\n")?;
+    say(rt, b"-- the order of record's refusals\n")?;
     let mut t = filled(tracker::fresh(), 32);
     t.next = 0;
     t = record(rt, t, 16, 1)?;
@@ -504,7 +504,7 @@ fn order_of_record(rt: &impl Print) -> io::Result<()> {
 }
 
 fn last_numbers(rt: &impl Print) -> io::Result<()> {
-    say(rt, "-- the last number is 2^64 - 2\n")?;
+    say(rt, b"-- the last number is 2^64 - 2\n")?;
     let mut t = tracker::fresh();
     t.next = 18446744073709551613;
     t = record(rt, t, 1, 3)?;
@@ -533,17 +533,17 @@ fn every_call(rt: &impl Print, before: Tracker) -> io::Result<()> {
 }
 
 fn long_queues(rt: &impl Print) -> io::Result<()> {
-    say(rt, "-- unsound: 33 wait on shard 0\n")?;
+    say(rt, b"-- unsound: 33 wait on shard 0\n")?;
     let mut t = tracker::fresh();
     t.lengths[0] = 33;
     every_call(rt, t)?;
-    say(rt, "-- unsound: a length of 2^64 - 1 on shard 1\n")?;
+    say(rt, b"-- unsound: a length of 2^64 - 1 on shard 1\n")?;
     t = tracker::fresh();
     t.lengths[1] = 18446744073709551615;
     every_call(rt, t)?;
     say(
         rt,
-        "-- unsound: 32 wait beside an open slot; 31 are sound\n",
+        b"-- unsound: 32 wait beside an open slot; 31 are sound\n",
     )?;
     t = filled(tracker::fresh(), 32);
     t.slots[0].number = 1;
@@ -553,13 +553,13 @@ fn long_queues(rt: &impl Print) -> io::Result<()> {
 }
 
 fn numbers_too_large(rt: &impl Print) -> io::Result<()> {
-    say(rt, "-- unsound: the next number is 0\n")?;
+    say(rt, b"-- unsound: the next number is 0\n")?;
     let mut t = tracker::fresh();
     t.next = 0;
     every_call(rt, t)?;
     say(
         rt,
-        "-- unsound: an open number is the next one; the one before it is sound\n",
+        b"-- unsound: an open number is the next one; the one before it is sound\n",
     )?;
     t = tracker::fresh();
     t.next = 5;
@@ -569,7 +569,7 @@ fn numbers_too_large(rt: &impl Print) -> io::Result<()> {
     checkpoint(rt, t, 7, 0)?;
     say(
         rt,
-        "-- unsound: a waiting number is the next one; past the queue's length it doesn't count\n",
+        b"-- unsound: a waiting number is the next one; past the queue's length it doesn't count\n",
     )?;
     t = tracker::fresh();
     t.next = 5;
@@ -583,7 +583,7 @@ fn numbers_too_large(rt: &impl Print) -> io::Result<()> {
 fn numbers_that_fall(rt: &impl Print) -> io::Result<()> {
     say(
         rt,
-        "-- unsound: number 4 waits before number 3; past the queue's length it doesn't count\n",
+        b"-- unsound: number 4 waits before number 3; past the queue's length it doesn't count\n",
     )?;
     let mut t = with_equals(0);
     t.numbers[3] = 3;
@@ -604,42 +604,42 @@ fn slot(number: u64, ordinal: u64, offset: u64) -> Slot {
 }
 
 fn lent_abandon(rt: &impl Print, which: u64, asked: u64) -> io::Result<()> {
-    say(rt, "a lent slot with number ")?;
+    say(rt, b"a lent slot with number ")?;
     number(rt, which)?;
-    say(rt, " abandons ")?;
+    say(rt, b" abandons ")?;
     number(rt, asked)?;
-    say(rt, ": ")?;
+    say(rt, b": ")?;
     let kept = slots::abandon_kept(slot(which, 8, 48), asked);
     let answer = kept.answer;
     match answer {
-        SlotAnswer::Done => say(rt, "done")?,
-        SlotAnswer::Stale => say(rt, "stale")?,
+        SlotAnswer::Done => say(rt, b"done")?,
+        SlotAnswer::Stale => say(rt, b"stale")?,
     }
-    say(rt, ", left with number ")?;
+    say(rt, b", left with number ")?;
     number(rt, kept.slot.number)?;
-    say(rt, " at (")?;
+    say(rt, b" at (")?;
     number(rt, kept.slot.ordinal)?;
-    say(rt, ", ")?;
+    say(rt, b", ")?;
     number(rt, kept.slot.offset)?;
-    say(rt, ")\n")
+    say(rt, b")\n")
 }
 
 fn along(rt: &impl Print, found: Least) -> io::Result<()> {
     cursor(rt, found.ordinal, found.offset)?;
     number(rt, found.limit)?;
     if found.any {
-        say(rt, ", one is open\n")
+        say(rt, b", one is open\n")
     } else {
-        say(rt, ", none is open\n")
+        say(rt, b", none is open\n")
     }
 }
 
 fn lent_forms(rt: &impl Print) -> io::Result<()> {
-    say(rt, "-- one lent slot\n")?;
+    say(rt, b"-- one lent slot\n")?;
     lent_abandon(rt, 5, 5)?;
     lent_abandon(rt, 5, 4)?;
     lent_abandon(rt, 0, 0)?;
-    say(rt, "-- a search along sixteen lent slots\n")?;
+    say(rt, b"-- a search along sixteen lent slots\n")?;
     let mut run = [slot(0, 3, 3); 16];
     along(rt, slots::least_of(run, 9, 4000))?;
     run[5] = slot(1, 9, 16);
@@ -652,20 +652,20 @@ fn lent_forms(rt: &impl Print) -> io::Result<()> {
 
 fn limits(rt: &impl Print, verdict: Verdict) -> io::Result<()> {
     match verdict {
-        Verdict::Accepted => say(rt, "accepted")?,
+        Verdict::Accepted => say(rt, b"accepted")?,
         Verdict::Refused(refusal) => refused(rt, refusal)?,
     }
     line(rt)
 }
 
 fn data(rt: &impl Print, klen: u64, vlen: u64, maximum: u64) -> io::Result<()> {
-    say(rt, "data entry, key ")?;
+    say(rt, b"data entry, key ")?;
     number(rt, klen)?;
-    say(rt, ", value ")?;
+    say(rt, b", value ")?;
     number(rt, vlen)?;
-    say(rt, ", maximum ")?;
+    say(rt, b", maximum ")?;
     number(rt, maximum)?;
-    say(rt, ": ")?;
+    say(rt, b": ")?;
     limits(
         rt,
         replay::check_data(klen as usize, vlen as usize, maximum as usize),
@@ -673,16 +673,16 @@ fn data(rt: &impl Print, klen: u64, vlen: u64, maximum: u64) -> io::Result<()> {
 }
 
 fn tombstone(rt: &impl Print, klen: u64, maximum: u64) -> io::Result<()> {
-    say(rt, "tombstone, key ")?;
+    say(rt, b"tombstone, key ")?;
     number(rt, klen)?;
-    say(rt, ", maximum ")?;
+    say(rt, b", maximum ")?;
     number(rt, maximum)?;
-    say(rt, ": ")?;
+    say(rt, b": ")?;
     limits(rt, replay::check_tombstone(klen as usize, maximum as usize))
 }
 
 fn data_limits(rt: &impl Print) -> io::Result<()> {
-    say(rt, "-- replay limits of a data entry\n")?;
+    say(rt, b"-- replay limits of a data entry\n")?;
     data(rt, 4096, 32768, 268435456)?;
     data(rt, 4097, 32769, 268435457)?;
     data(rt, 4097, 32769, 268435456)?;
@@ -698,7 +698,7 @@ fn data_limits(rt: &impl Print) -> io::Result<()> {
 }
 
 fn tombstone_limits(rt: &impl Print) -> io::Result<()> {
-    say(rt, "-- replay limits of a tombstone\n")?;
+    say(rt, b"-- replay limits of a tombstone\n")?;
     tombstone(rt, 4096, 268435456)?;
     tombstone(rt, 4096, 268435457)?;
     tombstone(rt, 4097, 268435456)?;
@@ -710,17 +710,17 @@ fn tombstone_limits(rt: &impl Print) -> io::Result<()> {
 }
 
 fn start(rt: &impl Print, ordinals: &[u64], from: u64) -> io::Result<()> {
-    say(rt, "start file of ")?;
+    say(rt, b"start file of ")?;
     number(rt, ordinals.len() as u64)?;
-    say(rt, " for ordinal ")?;
+    say(rt, b" for ordinal ")?;
     number(rt, from)?;
-    say(rt, ": ")?;
+    say(rt, b": ")?;
     match replay::start_file(ordinals, from) {
         StartAnswer::File { place } => {
-            say(rt, "place ")?;
+            say(rt, b"place ")?;
             number(rt, place as u64)?;
         }
-        StartAnswer::Nothing => say(rt, "nothing")?,
+        StartAnswer::Nothing => say(rt, b"nothing")?,
         StartAnswer::Refused(refusal) => refused(rt, refusal)?,
     }
     line(rt)
@@ -744,7 +744,7 @@ fn count_down(list: &mut [u64]) {
 }
 
 fn start_files(rt: &impl Print) -> io::Result<()> {
-    say(rt, "-- start file, in the list 5, 3, 9\n")?;
+    say(rt, b"-- start file, in the list 5, 3, 9\n")?;
     let list = [5u64, 3, 9];
     start(rt, &list, 0)?;
     start(rt, &list, 3)?;
@@ -752,7 +752,7 @@ fn start_files(rt: &impl Print) -> io::Result<()> {
     start(rt, &list, 6)?;
     start(rt, &list, 9)?;
     start(rt, &list, 10)?;
-    say(rt, "-- the same files in the list 9, 5, 3\n")?;
+    say(rt, b"-- the same files in the list 9, 5, 3\n")?;
     let turned = [9u64, 5, 3];
     start(rt, &turned, 0)?;
     start(rt, &turned, 3)?;
@@ -762,7 +762,7 @@ fn start_files(rt: &impl Print) -> io::Result<()> {
     start(rt, &turned, 10)?;
     say(
         rt,
-        "-- start file of none, and of 64 and 65, the largest ordinal first\n",
+        b"-- start file of none, and of 64 and 65, the largest ordinal first\n",
     )?;
     let mut many = [0u64; 65];
     count_down(&mut many);
@@ -771,7 +771,7 @@ fn start_files(rt: &impl Print) -> io::Result<()> {
     start_of(rt, &many, 64, 34)?;
     start_of(rt, &many, 64, 66)?;
     start(rt, &many, 34)?;
-    say(rt, "-- start file where all ordinals are equal\n")?;
+    say(rt, b"-- start file where all ordinals are equal\n")?;
     let equal = [7u64; 65];
     start_of(rt, &equal, 1, 7)?;
     start_of(rt, &equal, 2, 7)?;

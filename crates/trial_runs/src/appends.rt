@@ -16,10 +16,10 @@ pub fn said_of(answer: Appended, as_found: bool) -> Said {
 
 // The region's length is its capacity.
 fn begin(rt: &impl Print, capacity: usize, used: usize, ns: u64, klen: usize) -> io::Result<()> {
-    judge::number(rt, ", capacity ", capacity as u64)?;
-    judge::number(rt, ", used ", used as u64)?;
-    judge::number(rt, ", ns ", ns)?;
-    judge::number(rt, ", key ", klen as u64)
+    judge::number(rt, b", capacity ", capacity as u64)?;
+    judge::number(rt, b", used ", used as u64)?;
+    judge::number(rt, b", ns ", ns)?;
+    judge::number(rt, b", key ", klen as u64)
 }
 
 pub fn data(
@@ -32,9 +32,9 @@ pub fn data(
     value: &[u8],
     expected: Said,
 ) -> io::Result<()> {
-    judge::number(rt, "  append type ", kind)?;
+    judge::number(rt, b"  append type ", kind)?;
     begin(rt, region.len(), used, ns, key.len())?;
-    judge::number(rt, ", value ", value.len() as u64)?;
+    judge::number(rt, b", value ", value.len() as u64)?;
     let before = checksum::hash(region);
     let answer = append::append_data(
         region,
@@ -58,7 +58,7 @@ pub fn tombstone(
     key: &[u8],
     expected: Said,
 ) -> io::Result<()> {
-    judge::write(rt, "  append tombstone")?;
+    judge::write(rt, b"  append tombstone")?;
     begin(rt, region.len(), used, ns, key.len())?;
     let before = checksum::hash(region);
     let answer = append::append_tombstone(region, sample::VERSION, sample::ORDINAL, used, ns, key);
@@ -123,7 +123,7 @@ fn tombstone_in_48(
 // "Capacity 48: used 32 with length 16 is accepted, with 32 gets 13." A key of 2 and a value of 4
 // make 16 bytes, flush; a value of 5 makes 17, aligned 32.
 fn capacity(rt: &impl Print) -> io::Result<()> {
-    judge::write(rt, "append\n")?;
+    judge::write(rt, b"append\n")?;
     in_48(rt, 32, 0, 1, 2, 4, Said::Number(48))?;
     in_48(rt, 32, 0, 1, 2, 5, Said::Refused(13))?;
     in_48(rt, 48, 0, 1, 2, 4, Said::Refused(13))?;
@@ -167,7 +167,7 @@ fn lengths(rt: &impl Print) -> io::Result<()> {
 fn largest(rt: &impl Print, region: &mut [u8]) -> io::Result<()> {
     of_lengths(rt, region, 0, 0, 1, 4096, 32768, Said::Number(36880))?;
     let walked = scan::walk(region, sample::VERSION, sample::ORDINAL, region.len(), 0);
-    judge::write(rt, "  its length")?;
+    judge::write(rt, b"  its length")?;
     match walked {
         Walked::Found(e) => judge::answer(rt, Said::Number(e.end as u64), Said::Number(36874)),
         _ => judge::another_kind(rt),
@@ -183,7 +183,7 @@ fn largest_entries(rt: &impl Print) -> io::Result<()> {
 
 // Everything wrong at once, and then one thing less at each trial.
 fn order(rt: &impl Print) -> io::Result<()> {
-    judge::write(rt, "append, refusals in their order\n")?;
+    judge::write(rt, b"append, refusals in their order\n")?;
     in_48(rt, 1, 2, 64, 4097, 32769, Said::Refused(5))?;
     in_48(rt, 32, 2, 64, 4097, 32769, Said::Refused(9))?;
     in_48(rt, 32, 1, 64, 4097, 32769, Said::Refused(17))?;
@@ -203,7 +203,7 @@ fn tombstone_order(rt: &impl Print) -> io::Result<()> {
 
 // A key of 8 makes a tombstone of 16 bytes, flush; one of 9 makes 17, aligned 32.
 fn tombstones(rt: &impl Print) -> io::Result<()> {
-    judge::write(rt, "append tombstone\n")?;
+    judge::write(rt, b"append tombstone\n")?;
     tombstone_in_48(rt, 32, 1, 8, Said::Number(48))?;
     tombstone_in_48(rt, 32, 1, 9, Said::Refused(13))?;
     tombstone_in_48(rt, 15, 1, 2, Said::Refused(5))?;
@@ -227,9 +227,9 @@ const WRITTEN: [u8; 49] = [
 ];
 
 fn written(rt: &impl Print, region: &mut [u8]) -> io::Result<()> {
-    judge::write(rt, "append, what is written\n")?;
+    judge::write(rt, b"append, what is written\n")?;
     data(rt, region, 32, 0, 1, b"A7", b"9", Said::Number(48))?;
-    judge::write(rt, "  13 bytes at 32, 3 of filling, all others as found")?;
+    judge::write(rt, b"  13 bytes at 32, 3 of filling, all others as found")?;
     judge::holds(rt, &*region == WRITTEN.as_slice())
 }
 

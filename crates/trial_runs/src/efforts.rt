@@ -46,14 +46,14 @@ fn durable_in(
     bound: usize,
     expected: Said,
 ) -> io::Result<()> {
-    judge::number(rt, "durable end of ", region.len() as u64)?;
-    judge::number(rt, " bytes, bound ", bound as u64)?;
+    judge::number(rt, b"durable end of ", region.len() as u64)?;
+    judge::number(rt, b" bytes, bound ", bound as u64)?;
     let answer = tail::durable_end(region, version, ordinal, bound);
-    judge::answer_by(rt, said_of(answer), expected, "request 8")
+    judge::answer_by(rt, said_of(answer), expected, b"request 8")
 }
 
 fn durable(rt: &impl Print, region: &[u8], bound: usize, expected: Said) -> io::Result<()> {
-    judge::write(rt, "  ")?;
+    judge::write(rt, b"  ")?;
     durable_in(
         rt,
         region,
@@ -77,18 +77,18 @@ fn under(
     bound: usize,
     expected: Said,
 ) -> io::Result<()> {
-    judge::number(rt, "  version ", version)?;
-    judge::number(rt, ", ordinal ", ordinal)?;
-    judge::write(rt, ", ")?;
+    judge::number(rt, b"  version ", version)?;
+    judge::number(rt, b", ordinal ", ordinal)?;
+    judge::write(rt, b", ")?;
     durable_in(rt, region, version, ordinal, bound, expected)
 }
 
 // The three entries, of which one byte is changed.
 fn changed(rt: &impl Print, at: usize, byte: u8, expected: Said) -> io::Result<()> {
     let region = sample::changed(at, byte);
-    judge::number(rt, "  byte ", at as u64)?;
-    judge::number(rt, " now ", byte as u64)?;
-    judge::write(rt, ", ")?;
+    judge::number(rt, b"  byte ", at as u64)?;
+    judge::number(rt, b" now ", byte as u64)?;
+    judge::write(rt, b", ")?;
     durable_in(rt, &region, sample::VERSION, sample::ORDINAL, 48, expected)
 }
 
@@ -96,7 +96,7 @@ fn changed(rt: &impl Print, at: usize, byte: u8, expected: Said) -> io::Result<(
 fn bounds(rt: &impl Print, three: &[u8]) -> io::Result<()> {
     judge::write(
         rt,
-        "lines tried and bytes checksummed, insert, update and tombstone in 48 bytes\n",
+        b"lines tried and bytes checksummed, insert, update and tombstone in 48 bytes\n",
     )?;
     durable(rt, three, 48, ends(48, 3, 31))?;
     durable(rt, three, 33, ends(48, 3, 31))?;
@@ -110,7 +110,7 @@ fn bounds(rt: &impl Print, three: &[u8]) -> io::Result<()> {
 // An entry that reaches one byte past the region adds nothing, and a line with fewer than 8 bytes
 // isn't tried.
 fn cut(rt: &impl Print, three: &[u8]) -> io::Result<()> {
-    judge::write(rt, "lines tried and bytes checksummed, the region cut\n")?;
+    judge::write(rt, b"lines tried and bytes checksummed, the region cut\n")?;
     start(rt, three, 42, ends(48, 3, 31))?;
     start(rt, three, 41, ends(32, 3, 23))?;
     start(rt, three, 40, ends(32, 3, 23))?;
@@ -123,7 +123,7 @@ fn cut(rt: &impl Print, three: &[u8]) -> io::Result<()> {
 }
 
 fn zeros(rt: &impl Print) -> io::Result<()> {
-    judge::write(rt, "lines tried and bytes checksummed, zeros\n")?;
+    judge::write(rt, b"lines tried and bytes checksummed, zeros\n")?;
     let region = [0u8; 64];
     start(rt, &region, 64, ends(0, 4, 0))?;
     start(rt, &region, 56, ends(0, 4, 0))?;
@@ -136,7 +136,7 @@ fn zeros(rt: &impl Print) -> io::Result<()> {
 fn damaged(rt: &impl Print) -> io::Result<()> {
     judge::write(
         rt,
-        "lines tried and bytes checksummed, one byte of the three entries changed\n",
+        b"lines tried and bytes checksummed, one byte of the three entries changed\n",
     )?;
     changed(rt, 16, 0xc0, ends(48, 3, 19))?;
     changed(rt, 24, 0x32, ends(48, 3, 31))?;
@@ -150,7 +150,7 @@ fn damaged(rt: &impl Print) -> io::Result<()> {
 fn unknown_cut(rt: &impl Print, three: &[u8]) -> io::Result<()> {
     judge::write(
         rt,
-        "lines tried and bytes checksummed, the tombstone's type changed to 3\n",
+        b"lines tried and bytes checksummed, the tombstone's type changed to 3\n",
     )?;
     durable(rt, three, 33, unknown(32, 3, 23))?;
     durable(rt, three, 32, ends(32, 2, 23))?;
@@ -162,7 +162,7 @@ fn unknown_cut(rt: &impl Print, three: &[u8]) -> io::Result<()> {
 fn over_lines(rt: &impl Print, region: &mut [u8]) -> io::Result<()> {
     judge::write(
         rt,
-        "lines tried and bytes checksummed, an entry of three lines, and the same torn\n",
+        b"lines tried and bytes checksummed, an entry of three lines, and the same torn\n",
     )?;
     append::append_data(
         region,
@@ -184,7 +184,7 @@ fn over_lines(rt: &impl Print, region: &mut [u8]) -> io::Result<()> {
 fn longest(rt: &impl Print) -> io::Result<()> {
     judge::write(
         rt,
-        "lines tried and bytes checksummed, key and value of 65,535 bytes each\n",
+        b"lines tried and bytes checksummed, key and value of 65,535 bytes each\n",
     )?;
     let mut region = [0u8; 131080];
     region[0] = 0xc0;
@@ -202,7 +202,7 @@ fn longest(rt: &impl Print) -> io::Result<()> {
 fn of_version_2(rt: &impl Print) -> io::Result<()> {
     judge::write(
         rt,
-        "lines tried and bytes checksummed, the three entries in version 2, and 0xff\n",
+        b"lines tried and bytes checksummed, the three entries in version 2, and 0xff\n",
     )?;
     let region = sample::THREE_IN_VERSION_2;
     under(rt, &region, 2, 7, 48, ends(48, 3, 31))?;
@@ -215,7 +215,7 @@ fn of_version_2(rt: &impl Print) -> io::Result<()> {
 
 // 2 and 4 come without counts: no line was tried.
 fn refused(rt: &impl Print, three: &[u8]) -> io::Result<()> {
-    judge::write(rt, "lines tried and bytes checksummed, not with 2 and 4\n")?;
+    judge::write(rt, b"lines tried and bytes checksummed, not with 2 and 4\n")?;
     under(rt, three, 3, 7, 48, Said::Refused(2))?;
     under(rt, three, 0, 7, 49, Said::Refused(2))?;
     under(rt, three, 1, 7, 49, Said::Refused(4))?;

@@ -77,11 +77,11 @@ fn same_grid(a: [[u32; 64]; 3], b: [[u32; 64]; 3]) -> bool {
 fn write_column(rt: &impl Print, grid: [[u32; 64]; 3], ns: usize) -> io::Result<()> {
     if ns < 64 {
         if !same_column(grid, nothing(), ns) {
-            judge::number(rt, " ns ", ns as u64)?;
-            judge::number(rt, " (", wide(grid[0][ns]))?;
-            judge::number(rt, ", ", wide(grid[1][ns]))?;
-            judge::number(rt, ", ", wide(grid[2][ns]))?;
-            judge::write(rt, ")")?;
+            judge::number(rt, b" ns ", ns as u64)?;
+            judge::number(rt, b" (", wide(grid[0][ns]))?;
+            judge::number(rt, b", ", wide(grid[1][ns]))?;
+            judge::number(rt, b", ", wide(grid[2][ns]))?;
+            judge::write(rt, b")")?;
         }
     }
     Ok(())
@@ -98,7 +98,7 @@ fn write_columns(rt: &impl Print, grid: [[u32; 64]; 3]) -> io::Result<()> {
 
 fn write_grid(rt: &impl Print, grid: [[u32; 64]; 3]) -> io::Result<()> {
     if same_grid(grid, nothing()) {
-        judge::write(rt, " no entry")?;
+        judge::write(rt, b" no entry")?;
     }
     write_columns(rt, grid)
 }
@@ -117,14 +117,14 @@ fn said_of(answer: u32, place: u64) -> Said {
 }
 
 fn begin(rt: &impl Print, region: &[u8], version: u64, ordinal: u64) -> io::Result<()> {
-    judge::number(rt, "  version ", version)?;
-    judge::number(rt, ", ordinal ", ordinal)?;
-    judge::number(rt, ", counts in ", region.len() as u64)?;
-    judge::write(rt, " bytes")
+    judge::number(rt, b"  version ", version)?;
+    judge::number(rt, b", ordinal ", ordinal)?;
+    judge::number(rt, b", counts in ", region.len() as u64)?;
+    judge::write(rt, b" bytes")
 }
 
 fn holds(rt: &impl Print, is_so: bool) -> io::Result<()> {
-    judge::holds_by(rt, is_so, "request 9")
+    judge::holds_by(rt, is_so, b"request 9")
 }
 
 // Any answer but a grid.
@@ -139,8 +139,8 @@ fn none(
     let mut answer: u32 = 0;
     let mut place = PLACE;
     let grid = counts::count_entries(region, version, ordinal, &mut answer, &mut place);
-    judge::answer_by(rt, said_of(answer, place), expected, "request 9")?;
-    judge::write(rt, "  and without a grid")?;
+    judge::answer_by(rt, said_of(answer, place), expected, b"request 9")?;
+    judge::write(rt, b"  and without a grid")?;
     holds(rt, same_grid(grid, nothing()))
 }
 
@@ -158,14 +158,14 @@ fn under(
     let Said::Accepted = said_of(answer, place) else {
         return judge::another_kind(rt);
     };
-    judge::write(rt, ":")?;
+    judge::write(rt, b":")?;
     write_grid(rt, grid)?;
     if same_grid(grid, expected) {
-        judge::write(rt, ", as request 9\n")
+        judge::write(rt, b", as request 9\n")
     } else {
-        judge::write(rt, ", WRONG:")?;
+        judge::write(rt, b", WRONG:")?;
         write_grid(rt, expected)?;
-        judge::write(rt, "\n")
+        judge::write(rt, b"\n")
     }
 }
 
@@ -182,7 +182,7 @@ fn start(rt: &impl Print, region: &[u8], n: usize, expected: [[u32; 64]; 3]) -> 
 fn of_three(rt: &impl Print, three: &[u8]) -> io::Result<()> {
     judge::write(
         rt,
-        "counts of insert, update and tombstone in 48 bytes, whole and cut\n",
+        b"counts of insert, update and tombstone in 48 bytes, whole and cut\n",
     )?;
     start(rt, three, 48, only(1, 1, 1, 1))?;
     start(rt, three, 42, only(1, 1, 1, 1))?;
@@ -197,7 +197,7 @@ fn of_three(rt: &impl Print, three: &[u8]) -> io::Result<()> {
 fn damaged(rt: &impl Print) -> io::Result<()> {
     judge::write(
         rt,
-        "counts, the update's value, its mark, its namespace changed, and nothing but zeros\n",
+        b"counts, the update's value, its mark, its namespace changed, and nothing but zeros\n",
     )?;
     let value = sample::changed(24, 0x32);
     counted(rt, &value, only(1, 1, 0, 1))?;
@@ -211,7 +211,7 @@ fn damaged(rt: &impl Print) -> io::Result<()> {
 
 // 10, whatever was counted before it. Fewer than 8 bytes left end the walk.
 fn unknown(rt: &impl Print) -> io::Result<()> {
-    judge::write(rt, "counts, the type of one entry changed to 3\n")?;
+    judge::write(rt, b"counts, the type of one entry changed to 3\n")?;
     let first = sample::changed(3, 0xc1);
     none(rt, &first, 1, 7, Said::UnknownAt(0))?;
     let second = sample::changed(19, 0xc1);
@@ -223,7 +223,7 @@ fn unknown(rt: &impl Print) -> io::Result<()> {
 }
 
 fn versions(rt: &impl Print, three: &[u8]) -> io::Result<()> {
-    judge::write(rt, "counts in version 2 and in neither version\n")?;
+    judge::write(rt, b"counts in version 2 and in neither version\n")?;
     let region = sample::THREE_IN_VERSION_2;
     under(rt, &region, 2, 7, only(1, 1, 1, 1))?;
     under(rt, &region, 2, 16777223, only(1, 1, 1, 1))?;
@@ -322,7 +322,7 @@ fn every_kind(rt: &impl Print, region: &mut [u8]) -> io::Result<()> {
     let used = add_to_each_namespace(region, 0, 0);
     let used = add_to_each_namespace(region, used, 1);
     add_to_each_namespace(region, used, 2);
-    judge::write(rt, "  all together, one in every cell")?;
+    judge::write(rt, b"  all together, one in every cell")?;
     holds(rt, counts_as(region, [[1u32; 64]; 3]))?;
     judge::put(region, 3072, 0x80);
     judge::put(region, 3073, 0x18);
@@ -332,12 +332,12 @@ fn every_kind(rt: &impl Print, region: &mut [u8]) -> io::Result<()> {
 }
 
 fn kinds(rt: &impl Print) -> io::Result<()> {
-    judge::write(rt, "counts of every type in every namespace\n")?;
-    judge::write(rt, "  an insert by itself, in each namespace")?;
+    judge::write(rt, b"counts of every type in every namespace\n")?;
+    judge::write(rt, b"  an insert by itself, in each namespace")?;
     holds(rt, alone_in_each_namespace(0))?;
-    judge::write(rt, "  an update by itself, in each namespace")?;
+    judge::write(rt, b"  an update by itself, in each namespace")?;
     holds(rt, alone_in_each_namespace(1))?;
-    judge::write(rt, "  a tombstone by itself, in each namespace")?;
+    judge::write(rt, b"  a tombstone by itself, in each namespace")?;
     holds(rt, alone_in_each_namespace(2))
 }
 

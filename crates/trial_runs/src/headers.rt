@@ -10,14 +10,14 @@ fn answer_of_reader(rt: &impl Print, lent: &[u8], expected: Said) -> io::Result<
     let answer = header::read_header(lent);
     match answer {
         HeaderRead::Header { version, ordinal } => {
-            judge::answer_by(rt, Said::Header(version, ordinal), expected, "request 10")
+            judge::answer_by(rt, Said::Header(version, ordinal), expected, b"request 10")
         }
         HeaderRead::Refused(refusal) => judge::answer(rt, judge::refused(refusal), expected),
     }
 }
 
 pub fn read(rt: &impl Print, lent: &[u8], expected: Said) -> io::Result<()> {
-    judge::number(rt, "  read header, bytes ", lent.len() as u64)?;
+    judge::number(rt, b"  read header, bytes ", lent.len() as u64)?;
     answer_of_reader(rt, lent, expected)
 }
 
@@ -33,7 +33,7 @@ pub fn verdict_of(lent: &mut [u8], version: u64) -> Said {
 }
 
 pub fn write(rt: &impl Print, lent: &mut [u8], expected: Said) -> io::Result<()> {
-    judge::number(rt, "  write header, bytes ", lent.len() as u64)?;
+    judge::number(rt, b"  write header, bytes ", lent.len() as u64)?;
     judge::answer(rt, verdict_of(lent, sample::VERSION), expected)
 }
 
@@ -63,13 +63,13 @@ fn read_changed(
 
 fn changed(rt: &impl Print, at: usize, byte: u8, expected: Said) -> io::Result<()> {
     let mut lent = [0x55u8; 4096];
-    judge::number(rt, "  read header, byte ", at as u64)?;
-    judge::number(rt, " set to ", byte as u64)?;
+    judge::number(rt, b"  read header, byte ", at as u64)?;
+    judge::number(rt, b" set to ", byte as u64)?;
     read_changed(rt, &mut lent, at, byte, expected)
 }
 
 fn lengths(rt: &impl Print) -> io::Result<()> {
-    judge::write(rt, "header\n")?;
+    judge::write(rt, b"header\n")?;
     cut(rt, 0, Said::Refused(1))?;
     cut(rt, 4095, Said::Refused(1))?;
     cut(rt, 4096, Said::Header(1, 7))?;
@@ -82,7 +82,7 @@ fn lengths(rt: &impl Print) -> io::Result<()> {
 fn fields(rt: &impl Print) -> io::Result<()> {
     judge::write(
         rt,
-        "header, bytes 0 to 7 the signature, 8 to 11 the version, 16 to 23 the ordinal\n",
+        b"header, bytes 0 to 7 the signature, 8 to 11 the version, 16 to 23 the ordinal\n",
     )?;
     changed(rt, 0, 0x4d, Said::Refused(2))?;
     changed(rt, 7, 0x30, Said::Refused(2))?;
@@ -100,7 +100,7 @@ fn fields(rt: &impl Print) -> io::Result<()> {
 fn behind(rt: &impl Print, lent: &mut [u8]) -> io::Result<()> {
     write(rt, lent, Said::Accepted)?;
     if 4096 < lent.len() {
-        judge::write(rt, "  the byte behind the header is as found")?;
+        judge::write(rt, b"  the byte behind the header is as found")?;
         judge::holds(rt, lent[4096] == 0x55)?;
     }
     Ok(())

@@ -25,13 +25,14 @@ pub enum Said {
     No,
 }
 
-pub fn write(rt: &impl Print, text: &str) -> io::Result<()> {
-    rt.print(text)
+pub fn write(rt: &impl Print, text: &[u8]) -> io::Result<()> {
+    rt.write_all(text)
 }
 
 // A number and the words before it.
-pub fn number(rt: &impl Print, before: &str, n: u64) -> io::Result<()> {
-    print!(rt; "{before}{n}")
+pub fn number(rt: &impl Print, before: &[u8], n: u64) -> io::Result<()> {
+    rt.write_all(before)?;
+    rt.print(n)
 }
 
 pub fn refused(refusal: Refusal) -> Said {
@@ -47,32 +48,32 @@ pub fn refused_leaving(refusal: Refusal, as_found: bool) -> Said {
 }
 
 fn write_effort(rt: &impl Print, effort: Effort) -> io::Result<()> {
-    number(rt, ", lines ", effort.lines as u64)?;
-    number(rt, ", bytes ", effort.bytes as u64)
+    number(rt, b", lines ", effort.lines as u64)?;
+    number(rt, b", bytes ", effort.bytes as u64)
 }
 
 fn write_said(rt: &impl Print, said: Said) -> io::Result<()> {
     match said {
-        Said::Accepted => write(rt, "accepted"),
-        Said::Number(n) => number(rt, "", n),
+        Said::Accepted => write(rt, b"accepted"),
+        Said::Number(n) => number(rt, b"", n),
         Said::Header(version, ordinal) => {
-            number(rt, "version ", version)?;
-            number(rt, ", ordinal ", ordinal)
+            number(rt, b"version ", version)?;
+            number(rt, b", ordinal ", ordinal)
         }
-        Said::End => write(rt, "End"),
-        Said::Refused(n) => number(rt, "refused ", n),
-        Said::UnknownAt(p) => number(rt, "refused 10 at ", p),
+        Said::End => write(rt, b"End"),
+        Said::Refused(n) => number(rt, b"refused ", n),
+        Said::UnknownAt(p) => number(rt, b"refused 10 at ", p),
         Said::Ended(n, effort) => {
-            number(rt, "", n)?;
+            number(rt, b"", n)?;
             write_effort(rt, effort)
         }
         Said::UnknownAfter(p, effort) => {
-            number(rt, "refused 10 at ", p)?;
+            number(rt, b"refused 10 at ", p)?;
             write_effort(rt, effort)
         }
-        Said::RefusedChanged(n) => number(rt, "bytes changed, and refused ", n),
-        Said::Yes => write(rt, "yes"),
-        Said::No => write(rt, "no"),
+        Said::RefusedChanged(n) => number(rt, b"bytes changed, and refused ", n),
+        Said::Yes => write(rt, b"yes"),
+        Said::No => write(rt, b"no"),
     }
 }
 
@@ -147,27 +148,27 @@ pub fn answer_by(
     rt: &impl Print,
     answered: Said,
     expected: Said,
-    document: &str,
+    document: &[u8],
 ) -> io::Result<()> {
-    write(rt, ": ")?;
+    write(rt, b": ")?;
     write_said(rt, answered)?;
     if same_said(answered, expected) {
-        write(rt, ", as ")?;
+        write(rt, b", as ")?;
         write(rt, document)?;
-        write(rt, "\n")
+        write(rt, b"\n")
     } else {
-        write(rt, ", WRONG: ")?;
+        write(rt, b", WRONG: ")?;
         write_said(rt, expected)?;
-        write(rt, "\n")
+        write(rt, b"\n")
     }
 }
 
 pub fn answer(rt: &impl Print, answered: Said, expected: Said) -> io::Result<()> {
-    answer_by(rt, answered, expected, "document 01")
+    answer_by(rt, answered, expected, b"document 01")
 }
 
 // A question whose answer is to be yes.
-pub fn holds_by(rt: &impl Print, is_so: bool, document: &str) -> io::Result<()> {
+pub fn holds_by(rt: &impl Print, is_so: bool, document: &[u8]) -> io::Result<()> {
     if is_so {
         answer_by(rt, Said::Yes, Said::Yes, document)
     } else {
@@ -176,40 +177,40 @@ pub fn holds_by(rt: &impl Print, is_so: bool, document: &str) -> io::Result<()> 
 }
 
 pub fn holds(rt: &impl Print, is_so: bool) -> io::Result<()> {
-    holds_by(rt, is_so, "document 01")
+    holds_by(rt, is_so, b"document 01")
 }
 
 // The bytes of a key or a value, which are text here.
 pub fn bytes(rt: &impl Print, answered: &[u8], expected: &[u8]) -> io::Result<()> {
-    write(rt, ": \"")?;
+    write(rt, b": \"")?;
     rt.write_all(answered)?;
     if answered == expected {
-        write(rt, "\", as document 01\n")
+        write(rt, b"\", as document 01\n")
     } else {
-        write(rt, "\", WRONG: \"")?;
+        write(rt, b"\", WRONG: \"")?;
         rt.write_all(expected)?;
-        write(rt, "\"\n")
+        write(rt, b"\"\n")
     }
 }
 
 fn write_kind(rt: &impl Print, kind: u64) -> io::Result<()> {
     match kind {
-        0 => write(rt, "insert"),
-        1 => write(rt, "update"),
-        2 => write(rt, "tombstone"),
-        _ => write(rt, "unknown type"),
+        0 => write(rt, b"insert"),
+        1 => write(rt, b"update"),
+        2 => write(rt, b"tombstone"),
+        _ => write(rt, b"unknown type"),
     }
 }
 
 fn write_entry(rt: &impl Print, e: Entry) -> io::Result<()> {
     write_kind(rt, e.kind)?;
-    number(rt, " at ", e.offset as u64)?;
-    number(rt, ", ns ", e.ns)?;
-    number(rt, ", value ", e.vlen as u64)?;
-    number(rt, " at ", e.vplace as u64)?;
-    number(rt, ", key ", e.klen as u64)?;
-    number(rt, " at ", e.kplace as u64)?;
-    number(rt, ", end ", e.end as u64)
+    number(rt, b" at ", e.offset as u64)?;
+    number(rt, b", ns ", e.ns)?;
+    number(rt, b", value ", e.vlen as u64)?;
+    number(rt, b" at ", e.vplace as u64)?;
+    number(rt, b", key ", e.klen as u64)?;
+    number(rt, b" at ", e.kplace as u64)?;
+    number(rt, b", end ", e.end as u64)
 }
 
 fn same_entry(a: Entry, b: Entry) -> bool {
@@ -242,28 +243,28 @@ pub fn found_by(
     rt: &impl Print,
     answered: Entry,
     expected: Entry,
-    document: &str,
+    document: &[u8],
 ) -> io::Result<()> {
-    write(rt, ": ")?;
+    write(rt, b": ")?;
     write_entry(rt, answered)?;
     if same_entry(answered, expected) {
-        write(rt, ", as ")?;
+        write(rt, b", as ")?;
         write(rt, document)?;
-        write(rt, "\n")
+        write(rt, b"\n")
     } else {
-        write(rt, ", WRONG: ")?;
+        write(rt, b", WRONG: ")?;
         write_entry(rt, expected)?;
-        write(rt, "\n")
+        write(rt, b"\n")
     }
 }
 
 pub fn found(rt: &impl Print, answered: Entry, expected: Entry) -> io::Result<()> {
-    found_by(rt, answered, expected, "document 01")
+    found_by(rt, answered, expected, b"document 01")
 }
 
 // An answer that is none where an entry was expected, or the other way round.
 pub fn another_kind(rt: &impl Print) -> io::Result<()> {
-    write(rt, ": WRONG: another kind of answer\n")
+    write(rt, b": WRONG: another kind of answer\n")
 }
 
 // The first n bytes of a run, or none where it is shorter.

@@ -7,9 +7,9 @@ use read::Reading;
 use std::io;
 
 fn begin(rt: &impl Print, length: usize, p: usize, hint: usize) -> io::Result<()> {
-    judge::number(rt, "  read of ", length as u64)?;
-    judge::number(rt, " bytes, place ", p as u64)?;
-    judge::number(rt, ", hint ", hint as u64)
+    judge::number(rt, b"  read of ", length as u64)?;
+    judge::number(rt, b" bytes, place ", p as u64)?;
+    judge::number(rt, b", hint ", hint as u64)
 }
 
 // A read that is refused.
@@ -35,7 +35,7 @@ fn one_by(
     p: usize,
     hint: usize,
     expected: Entry,
-    document: &str,
+    document: &[u8],
 ) -> io::Result<()> {
     begin(rt, region.len(), p, hint)?;
     let reading = read::read_at(region, sample::VERSION, sample::ORDINAL, p, hint);
@@ -52,19 +52,19 @@ pub fn one(
     hint: usize,
     expected: Entry,
 ) -> io::Result<()> {
-    one_by(rt, region, p, hint, expected, "document 01")
+    one_by(rt, region, p, hint, expected, b"document 01")
 }
 
 // The sample's update. That its type is told as it was written is document 02's request 4.
 fn updated(rt: &impl Print, three: &[u8], hint: usize) -> io::Result<()> {
-    one_by(rt, three, 16, hint, sample::update(), "request 4")
+    one_by(rt, three, 16, hint, sample::update(), b"request 4")
 }
 
 // The update has 14 bytes.
 fn hints(rt: &impl Print, three: &[u8]) -> io::Result<()> {
     judge::write(
         rt,
-        "read at a place, insert, update and tombstone in 48 bytes\n",
+        b"read at a place, insert, update and tombstone in 48 bytes\n",
     )?;
     one(rt, three, 0, 48, sample::insert())?;
     none(rt, three, 16, 0, Said::Refused(6))?;
@@ -95,7 +95,7 @@ fn places(rt: &impl Print, three: &[u8]) -> io::Result<()> {
 
 // The order: 6 if under 8 bytes; 7; 6 if shorter than the data layout says; 8; 9.
 fn wrong_mark(rt: &impl Print, three: &[u8]) -> io::Result<()> {
-    judge::write(rt, "read at a place, the insert's mark wrong\n")?;
+    judge::write(rt, b"read at a place, the insert's mark wrong\n")?;
     none(rt, three, 0, 7, Said::Refused(6))?;
     none(rt, three, 0, 8, Said::Refused(7))?;
     none(rt, three, 0, 48, Said::Refused(7))
@@ -104,7 +104,7 @@ fn wrong_mark(rt: &impl Print, three: &[u8]) -> io::Result<()> {
 fn wrong_checksum(rt: &impl Print, three: &[u8]) -> io::Result<()> {
     judge::write(
         rt,
-        "read at a place, the insert's value changed and so its checksum wrong\n",
+        b"read at a place, the insert's value changed and so its checksum wrong\n",
     )?;
     none(rt, three, 0, 12, Said::Refused(6))?;
     none(rt, three, 0, 13, Said::Refused(8))
@@ -114,7 +114,7 @@ fn wrong_checksum(rt: &impl Print, three: &[u8]) -> io::Result<()> {
 fn wrong_both(rt: &impl Print, three: &[u8]) -> io::Result<()> {
     judge::write(
         rt,
-        "read at a place, the insert's type changed to 3 and so its checksum wrong\n",
+        b"read at a place, the insert's type changed to 3 and so its checksum wrong\n",
     )?;
     none(rt, three, 0, 13, Said::Refused(8))
 }
@@ -131,7 +131,7 @@ const TYPE_3: [u8; 13] = [
 fn wrong_type(rt: &impl Print) -> io::Result<()> {
     judge::write(
         rt,
-        "read at a place, type 2 and then type 3 in the data layout, the checksum right\n",
+        b"read at a place, type 2 and then type 3 in the data layout, the checksum right\n",
     )?;
     none(rt, &TYPE_2, 0, 13, Said::Refused(9))?;
     none(rt, &TYPE_3, 0, 13, Said::Refused(9))?;

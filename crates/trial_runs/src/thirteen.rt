@@ -6,7 +6,7 @@ use std::io;
 use tail::UsedBound;
 
 fn used(rt: &impl Print, region: &[u8], expected: Said) -> io::Result<()> {
-    judge::number(rt, "  used bound, bytes ", region.len() as u64)?;
+    judge::number(rt, b"  used bound, bytes ", region.len() as u64)?;
     let bound = tail::used_bound(region);
     match bound {
         UsedBound::Bound(n) => judge::answer(rt, Said::Number(n as u64), expected),
@@ -17,7 +17,7 @@ fn used(rt: &impl Print, region: &[u8], expected: Said) -> io::Result<()> {
 fn tails(rt: &impl Print, region: &[u8]) -> io::Result<()> {
     judge::write(
         rt,
-        "one entry of 13 bytes in a region of 13 bytes, through every operation\n",
+        b"one entry of 13 bytes in a region of 13 bytes, through every operation\n",
     )?;
     used(rt, region, Said::Number(13))?;
     walks::durable(rt, region, 13, Said::Number(16))?;
@@ -61,7 +61,7 @@ fn written(rt: &impl Print, region: &mut [u8]) -> io::Result<()> {
     headers::write(rt, region, Said::Refused(1))?;
     appended(rt, region)?;
     buried(rt, region)?;
-    judge::write(rt, "  the 13 bytes are as found after all of these")?;
+    judge::write(rt, b"  the 13 bytes are as found after all of these")?;
     judge::holds(rt, &*region == sample::THIRTEEN.as_slice())
 }
 

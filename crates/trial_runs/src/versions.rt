@@ -8,12 +8,12 @@ use std::io;
 use tail::DurableEnd;
 
 fn begin(rt: &impl Print, version: u64, ordinal: u64) -> io::Result<()> {
-    judge::number(rt, "  version ", version)?;
-    judge::number(rt, ", ordinal ", ordinal)
+    judge::number(rt, b"  version ", version)?;
+    judge::number(rt, b", ordinal ", ordinal)
 }
 
 fn answer(rt: &impl Print, answered: Said, expected: Said) -> io::Result<()> {
-    judge::answer_by(rt, answered, expected, "request 10")
+    judge::answer_by(rt, answered, expected, b"request 10")
 }
 
 // The walk from 0 to the bound; of an entry, where it ends.
@@ -26,7 +26,7 @@ fn walk(
     expected: Said,
 ) -> io::Result<()> {
     begin(rt, version, ordinal)?;
-    judge::write(rt, ", walk")?;
+    judge::write(rt, b", walk")?;
     let walked = scan::walk(region, version, ordinal, bound, 0);
     match walked {
         Walked::Found(e) => answer(rt, Said::Number(e.end as u64), expected),
@@ -45,7 +45,7 @@ fn durable(
     expected: Said,
 ) -> io::Result<()> {
     begin(rt, version, ordinal)?;
-    judge::write(rt, ", durable end")?;
+    judge::write(rt, b", durable end")?;
     let answered = tail::durable_end(region, version, ordinal, bound);
     let end = answered.end;
     match end {
@@ -64,7 +64,7 @@ fn read(
     expected: Said,
 ) -> io::Result<()> {
     begin(rt, version, ordinal)?;
-    judge::write(rt, ", read")?;
+    judge::write(rt, b", read")?;
     let reading = read::read_at(region, version, ordinal, p, 48);
     match reading {
         Reading::Data(e) => answer(rt, Said::Number(e.end as u64), expected),
@@ -83,7 +83,7 @@ fn data(
     expected: Said,
 ) -> io::Result<()> {
     begin(rt, version, ordinal)?;
-    judge::number(rt, ", append type ", kind)?;
+    judge::number(rt, b", append type ", kind)?;
     let before = checksum::hash(region);
     let answered = append::append_data(region, version, ordinal, used, kind, 1, b"A7", value);
     let as_found = before == checksum::hash(region);
@@ -99,7 +99,7 @@ fn tombstone(
     expected: Said,
 ) -> io::Result<()> {
     begin(rt, version, ordinal)?;
-    judge::write(rt, ", append tombstone")?;
+    judge::write(rt, b", append tombstone")?;
     let before = checksum::hash(region);
     let answered = append::append_tombstone(region, version, ordinal, used, 1, b"A7");
     let as_found = before == checksum::hash(region);
@@ -119,7 +119,7 @@ fn neither(rt: &impl Print, region: &mut [u8], version: u64) -> io::Result<()> {
 fn other_versions(rt: &impl Print) -> io::Result<()> {
     judge::write(
         rt,
-        "version 0, 3, 257, 2^32 + 1, 2^32 + 2 and 2^64 - 1, and all else wrong too\n",
+        b"version 0, 3, 257, 2^32 + 1, 2^32 + 2 and 2^64 - 1, and all else wrong too\n",
     )?;
     let mut region = sample::three();
     neither(rt, &mut region, 0)?;
@@ -132,12 +132,12 @@ fn other_versions(rt: &impl Print) -> io::Result<()> {
 
 fn write_header(rt: &impl Print, lent: &mut [u8], version: u64, expected: Said) -> io::Result<()> {
     begin(rt, version, sample::ORDINAL)?;
-    judge::number(rt, ", write header, bytes ", lent.len() as u64)?;
+    judge::number(rt, b", write header, bytes ", lent.len() as u64)?;
     answer(rt, headers::verdict_of(lent, version), expected)
 }
 
 fn header_writer(rt: &impl Print) -> io::Result<()> {
-    judge::write(rt, "header writer, 1 before 2\n")?;
+    judge::write(rt, b"header writer, 1 before 2\n")?;
     let mut shorter = [0x55u8; 4095];
     write_header(rt, &mut shorter, 3, Said::Refused(1))?;
     let mut whole = [0x55u8; 4096];
@@ -153,11 +153,11 @@ fn three_in_version_2(rt: &impl Print, region: &mut [u8], ordinal: u64) -> io::R
     data(rt, region, 2, ordinal, 0, 0, b"9", Said::Number(16))?;
     data(rt, region, 2, ordinal, 16, 1, b"10", Said::Number(32))?;
     tombstone(rt, region, 2, ordinal, 32, Said::Number(48))?;
-    judge::write(rt, "  the marks are 0x5A17C7, 0x5A17C8 and 0x5A17C9")?;
+    judge::write(rt, b"  the marks are 0x5A17C7, 0x5A17C8 and 0x5A17C9")?;
     judge::holds_by(
         rt,
         &*region == sample::THREE_IN_VERSION_2.as_slice(),
-        "request 10",
+        b"request 10",
     )
 }
 
@@ -165,7 +165,7 @@ fn three_in_version_2(rt: &impl Print, region: &mut [u8], ordinal: u64) -> io::R
 fn written(rt: &impl Print) -> io::Result<()> {
     judge::write(
         rt,
-        "insert, update and tombstone in a version 2 file, of two ordinals with the same marks\n",
+        b"insert, update and tombstone in a version 2 file, of two ordinals with the same marks\n",
     )?;
     let mut region = [0; 48];
     three_in_version_2(rt, &mut region, 7)?;
@@ -177,7 +177,7 @@ fn written(rt: &impl Print) -> io::Result<()> {
 fn recycled(rt: &impl Print) -> io::Result<()> {
     judge::write(
         rt,
-        "the entries of ordinal 7 under other ordinals and under version 1\n",
+        b"the entries of ordinal 7 under other ordinals and under version 1\n",
     )?;
     let region = sample::THREE_IN_VERSION_2;
     walk(rt, &region, 2, 7, 48, Said::Number(13))?;
@@ -193,7 +193,7 @@ fn recycled(rt: &impl Print) -> io::Result<()> {
 
 // Version 1 has the marks of version 2 with an ordinal that is 0 modulo 2^24, and no others.
 fn of_version_1(rt: &impl Print) -> io::Result<()> {
-    judge::write(rt, "the entries of version 1 under version 2\n")?;
+    judge::write(rt, b"the entries of version 1 under version 2\n")?;
     let region = sample::three();
     durable(rt, &region, 1, 18446744073709551615, 48, Said::Number(48))?;
     durable(rt, &region, 2, 0, 48, Said::Number(48))?;
@@ -203,7 +203,7 @@ fn of_version_1(rt: &impl Print) -> io::Result<()> {
 
 // Ordinal 0xA5E83F gives offset 0 the mark 0xFFFFFF, so a line of 0xff is one of type 3 there.
 fn erased(rt: &impl Print) -> io::Result<()> {
-    judge::write(rt, "16 bytes of 0xff\n")?;
+    judge::write(rt, b"16 bytes of 0xff\n")?;
     let region = [0xffu8; 16];
     walk(rt, &region, 2, 10872894, 16, Said::End)?;
     walk(rt, &region, 2, 10872895, 16, Said::UnknownAt(0))?;

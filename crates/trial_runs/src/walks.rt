@@ -7,9 +7,9 @@ use std::io;
 use tail::DurableEnd;
 
 fn begin(rt: &impl Print, length: usize, bound: usize, from: usize) -> io::Result<()> {
-    judge::number(rt, "  walk ", length as u64)?;
-    judge::number(rt, " bytes, bound ", bound as u64)?;
-    judge::number(rt, ", from ", from as u64)
+    judge::number(rt, b"  walk ", length as u64)?;
+    judge::number(rt, b" bytes, bound ", bound as u64)?;
+    judge::number(rt, b", from ", from as u64)
 }
 
 // A walk that finds no entry.
@@ -47,8 +47,8 @@ pub fn one(
 }
 
 pub fn durable(rt: &impl Print, region: &[u8], bound: usize, expected: Said) -> io::Result<()> {
-    judge::number(rt, "  durable end of ", region.len() as u64)?;
-    judge::number(rt, " bytes, bound ", bound as u64)?;
+    judge::number(rt, b"  durable end of ", region.len() as u64)?;
+    judge::number(rt, b" bytes, bound ", bound as u64)?;
     let answered = tail::durable_end(region, sample::VERSION, sample::ORDINAL, bound);
     let end = answered.end;
     match end {
@@ -59,16 +59,16 @@ pub fn durable(rt: &impl Print, region: &[u8], bound: usize, expected: Said) -> 
 }
 
 pub fn parts(rt: &impl Print, region: &[u8], e: Entry, key: &[u8], value: &[u8]) -> io::Result<()> {
-    judge::number(rt, "  in ", region.len() as u64)?;
-    judge::number(rt, " bytes, key of the entry at ", e.offset as u64)?;
+    judge::number(rt, b"  in ", region.len() as u64)?;
+    judge::number(rt, b" bytes, key of the entry at ", e.offset as u64)?;
     judge::bytes(rt, scan::key_of(region, e), key)?;
-    judge::number(rt, "  in ", region.len() as u64)?;
-    judge::number(rt, " bytes, value of the entry at ", e.offset as u64)?;
+    judge::number(rt, b"  in ", region.len() as u64)?;
+    judge::number(rt, b" bytes, value of the entry at ", e.offset as u64)?;
     judge::bytes(rt, scan::value_of(region, e), value)
 }
 
 fn offsets(rt: &impl Print, three: &[u8]) -> io::Result<()> {
-    judge::write(rt, "walk, insert, update and tombstone in 48 bytes\n")?;
+    judge::write(rt, b"walk, insert, update and tombstone in 48 bytes\n")?;
     one(rt, three, 48, 0, sample::insert())?;
     one(rt, three, 48, 1, sample::update())?;
     one(rt, three, 48, 13, sample::update())?;
@@ -109,8 +109,14 @@ fn keys_and_values(rt: &impl Print, three: &[u8]) -> io::Result<()> {
         b"A7",
         b"10",
     )?;
-    parts(rt, judge::start_of(three, 27), sample::update(), b"", b"10")?;
-    parts(rt, judge::start_of(three, 25), sample::update(), b"", b"")
+    parts(
+        rt,
+        judge::start_of(three, 27),
+        sample::update(),
+        b"b",
+        b"10",
+    )?;
+    parts(rt, judge::start_of(three, 25), sample::update(), b"b", b"")
 }
 
 // The entry has to lie within the region.
@@ -123,7 +129,7 @@ fn cut(rt: &impl Print, three: &[u8]) -> io::Result<()> {
 fn torn(rt: &impl Print, three: &[u8]) -> io::Result<()> {
     judge::write(
         rt,
-        "walk, the update's value changed and so its checksum wrong\n",
+        b"walk, the update's value changed and so its checksum wrong\n",
     )?;
     one(rt, three, 48, 13, sample::tombstone())?;
     durable(rt, three, 48, Said::Number(48))
@@ -131,7 +137,7 @@ fn torn(rt: &impl Print, three: &[u8]) -> io::Result<()> {
 
 // Type 3, whatever the checksum, which is wrong here.
 fn unknown(rt: &impl Print, three: &[u8]) -> io::Result<()> {
-    judge::write(rt, "walk, the update's type changed to 3\n")?;
+    judge::write(rt, b"walk, the update's type changed to 3\n")?;
     one(rt, three, 48, 0, sample::insert())?;
     none(rt, three, 48, 13, Said::UnknownAt(16))?;
     none(rt, three, 16, 13, Said::End)?;
@@ -142,7 +148,7 @@ fn unknown(rt: &impl Print, three: &[u8]) -> io::Result<()> {
 
 // Fewer than 8 bytes left end the walk, even where a line of type 3 begins with them.
 fn unknown_last(rt: &impl Print, three: &[u8]) -> io::Result<()> {
-    judge::write(rt, "walk, the tombstone's type changed to 3\n")?;
+    judge::write(rt, b"walk, the tombstone's type changed to 3\n")?;
     none(rt, judge::start_of(three, 40), 40, 30, Said::UnknownAt(32))?;
     none(rt, judge::start_of(three, 39), 39, 30, Said::End)
 }
