@@ -109,14 +109,8 @@ fn keys_and_values(rt: &impl Print, three: &[u8]) -> io::Result<()> {
         b"A7",
         b"10",
     )?;
-    parts(
-        rt,
-        judge::start_of(three, 27),
-        sample::update(),
-        b"b",
-        b"10",
-    )?;
-    parts(rt, judge::start_of(three, 25), sample::update(), b"b", b"")
+    parts(rt, judge::start_of(three, 27), sample::update(), b"", b"10")?;
+    parts(rt, judge::start_of(three, 25), sample::update(), b"", b"")
 }
 
 // The entry has to lie within the region.
