@@ -13,11 +13,10 @@ mod trackers;
 use cursor::Cursor;
 use judge::Record;
 use std::io;
-use std::io::Read;
 use tracker::Tracker;
 
 // The recorded file has to stay below this.
-const LARGEST_FILE: u64 = 360000;
+const LARGEST_FILE: usize = 360000;
 
 // The bytes of LOCKREC1, the first lowest.
 const SIGNATURE: u64 = 0x3143_4552_4B43_4F4C;
@@ -224,17 +223,17 @@ fn replay_file(rt: &impl Print, file: &[u8]) -> io::Result<()> {
     write_verdict(rt, tally[0], tally[23])
 }
 
-// A file with as many bytes may go on, so it isn't replayed.
-fn replay_input<R: Input + Print + AllocGlobal>(rt: &R) -> io::Result<()> {
-    let mut file = Vec::new(rt.alloc());
-    rt.reader().take(LARGEST_FILE).read_to_end(&mut file)?;
-    let n = file.len();
-    if n as u64 == LARGEST_FILE {
+// A file that fills the room may go on, so it isn't replayed. One that can't be read to its end is
+// truncated.
+fn replay_input(rt: &HostRuntime, room: &mut [u8]) -> io::Result<()> {
+    let n = card::read_full(&mut rt.stdin(), room);
+    if n == room.len() {
         return write_malformed(rt, 0, cursor::standing(n, cursor::FILE_TOO_LONG));
     }
-    replay_file(rt, file.as_slice())
+    replay_file(rt, cursor::part(room, 0, n))
 }
 
 fn main(rt: HostRuntime) -> io::Result<()> {
-    replay_input(&rt)
+    let mut room = [0u8; LARGEST_FILE];
+    replay_input(&rt, &mut room)
 }
