@@ -178,7 +178,7 @@ impl Run {
             ),
             "The original is compiled as for release: optimised (opt-level 3), without overflow checks and debug assertions; \
              its checksum is a crate of its own, as the one that it names is, with a switch for the form. The library is \
-             what tools/native makes of it, one module with -O3, called through its C interface. No link-time optimisation \
+             what tools/native makes of it, called through its C interface. No link-time optimisation \
              on either side."
                 .to_string(),
         ];
