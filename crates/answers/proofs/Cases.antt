@@ -5,9 +5,10 @@ use mathlib.Core.Path.{◌≡◌, refl, sym, ap, ◌∙◌}
 use mathlib.Core.List.{List, [], ◌∷◌}
 use native.Mathlib.Omega.{arith}
 use Rattle.answers.specs.Numbers.{number_of, number_of_verdict}
-use Rattle.answers.specs.Answers.{Said, accepted, refused, unless_refused, said_verdict}
-use Rattle.answers.specs.declared.Verdict.{Verdict}
-use Rattle.answers.specs.declared.Verdict.TheVariants.{Accepted, Refused}
+use Rattle.answers.specs.Answers.{Said, accepted, refused, unless_refused, said, said_stopped, said_verdict}
+use Rattle.std.specs.Prelude.{Result, Ok, Err}
+use Rattle.answers.specs.declared.Stopped.{Stopped}
+use Rattle.answers.specs.declared.Stopped.TheVariants.{Refused, UnknownAt}
 use Rattle.answers.specs.declared.Refusal.{Refusal}
 use Rattle.answers.specs.declared.Refusal.TheVariants.{HeaderTooShort, WrongHeader, RegionTooLarge, BoundPastRegion, NotOnLine, EntryTooShort, WrongMark, WrongChecksum, TypeNotAllowed, UnknownType, KeyTooLong, ValueTooLong, NoSpace, ShardTooLarge, NoWaitingRoom, NumbersUsedUp, NamespaceTooLarge, TooManyOrdinals, EqualOrdinals, NotSound}
 
@@ -71,11 +72,11 @@ refusal_refuses EqualOrdinals answer = refl
 refusal_refuses NotSound answer = refl
 
 -- the paper's words tell a check's answers apart
-pub verdict_once : (a b : Verdict) → said_verdict a ≡ said_verdict b → a ≡ b
-verdict_once Accepted Accepted e = refl
-verdict_once Accepted (Refused r) e = absurd (let z : ◌≡◌ {A = ℕ} 0 1 = cc in omega arith)
-verdict_once (Refused r) Accepted e = absurd (let z : ◌≡◌ {A = ℕ} 0 1 = cc in omega arith)
-verdict_once (Refused r) (Refused q) e = let n : number_of r ≡ number_of q = cc in ap Refused (same_number r q n)
+pub verdict_once : (a b : Result (Unit {0}) Refusal) → said_verdict a ≡ said_verdict b → a ≡ b
+verdict_once (Ok a) (Ok b) e = refl
+verdict_once (Ok a) (Err r) e = absurd (let z : ◌≡◌ {A = ℕ} 0 1 = cc in omega arith)
+verdict_once (Err r) (Ok a) e = absurd (let z : ◌≡◌ {A = ℕ} 0 1 = cc in omega arith)
+verdict_once (Err r) (Err q) e = let n : number_of r ≡ number_of q = cc in ap Err (same_number r q n)
 
 -- no refusal has the number 0, and so a check's number tells its answers apart too
 pub number_not_zero : (r : Refusal) → number_of r ≡ 0 → ⊥
@@ -84,8 +85,27 @@ number_not_zero r e =
     let z : ◌≡◌ {A = ℕ} 0 1 = cc in
     omega arith
 
-pub verdict_by_number : (a b : Verdict) → number_of_verdict a ≡ number_of_verdict b → a ≡ b
-verdict_by_number Accepted Accepted e = refl
-verdict_by_number Accepted (Refused r) e = absurd (number_not_zero r (sym e))
-verdict_by_number (Refused r) Accepted e = absurd (number_not_zero r e)
-verdict_by_number (Refused r) (Refused q) e = ap Refused (same_number r q e)
+pub verdict_by_number : (a b : Result (Unit {0}) Refusal) → number_of_verdict a ≡ number_of_verdict b → a ≡ b
+verdict_by_number (Ok a) (Ok b) e = refl
+verdict_by_number (Ok a) (Err r) e = absurd (number_not_zero r (sym e))
+verdict_by_number (Err r) (Ok a) e = absurd (number_not_zero r e)
+verdict_by_number (Err r) (Err q) e = ap Err (same_number r q e)
+
+-- the paper's words tell any operation's answers apart
+pub said_once : {A : Type 0} (a b : Result A Refusal) → said a ≡ said b → a ≡ b
+said_once (Ok a) (Ok b) e = cc
+said_once (Ok a) (Err q) e = absurd (let z : ◌≡◌ {A = ℕ} 0 1 = cc in omega arith)
+said_once (Err r) (Ok b) e = absurd (let z : ◌≡◌ {A = ℕ} 0 1 = cc in omega arith)
+said_once (Err r) (Err q) e = let n : number_of r ≡ number_of q = cc in ap Err (same_number r q n)
+
+-- and those of a walk
+pub stopped_once : {A : Type 0} (a b : Result A Stopped) → said_stopped a ≡ said_stopped b → a ≡ b
+stopped_once (Ok a) (Ok b) e = cc
+stopped_once (Ok a) (Err (Refused q)) e = absurd (let z : ◌≡◌ {A = ℕ} 0 1 = cc in omega arith)
+stopped_once (Ok a) (Err (UnknownAt p)) e = absurd (let z : ◌≡◌ {A = ℕ} 0 1 = cc in omega arith)
+stopped_once (Err (Refused q)) (Ok a) e = absurd (let z : ◌≡◌ {A = ℕ} 0 1 = cc in omega arith)
+stopped_once (Err (UnknownAt p)) (Ok a) e = absurd (let z : ◌≡◌ {A = ℕ} 0 1 = cc in omega arith)
+stopped_once (Err (Refused r)) (Err (Refused q)) e = let n : number_of r ≡ number_of q = cc in ap (λ (x : Refusal). Err (Refused x)) (same_number r q n)
+stopped_once (Err (Refused r)) (Err (UnknownAt p)) e = absurd (let z : ◌≡◌ {A = List ℕ} [] (p ∷ []) = cc in let n : ◌≡◌ {A = ℕ} 0 1 = cc in omega arith)
+stopped_once (Err (UnknownAt p)) (Err (Refused r)) e = absurd (let z : ◌≡◌ {A = List ℕ} [] (p ∷ []) = cc in let n : ◌≡◌ {A = ℕ} 0 1 = cc in omega arith)
+stopped_once (Err (UnknownAt p)) (Err (UnknownAt q)) e = let z : ◌≡◌ {A = List ℕ} (p ∷ []) (q ∷ []) = cc in let n : p ≡ q = cc in ap (λ (x : ℕ). Err (UnknownAt x)) n

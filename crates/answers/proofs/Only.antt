@@ -1,8 +1,8 @@
 -- No second answer fits the contracts of `number` and `verdict_number`.
 -- Assumes nothing.
 use Rattle.answers.specs.OneAnswer.{OneAnswer}
-use Rattle.answers.proofs.number.Kinds as number-kinds
-use Rattle.answers.proofs.number.Reads as number-reads
+use Rattle.answers.proofs.Refusal.number.Kinds as number-kinds
+use Rattle.answers.proofs.Refusal.number.Reads as number-reads
 use Rattle.answers.proofs.verdict_number.Kinds as verdict-number-kinds
 use Rattle.answers.proofs.verdict_number.Reads as verdict-number-reads
 

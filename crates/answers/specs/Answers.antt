@@ -1,9 +1,10 @@
 -- Document 01, "Answer numbers", below the table: what any operation answers, and what it leaves behind.
 -- Assumes nothing.
-use Rattle.std.specs.Prelude.{ℕ, zero, suc, Bool, true, false, List, [], ◌∷◌}
+use Rattle.std.specs.Prelude.{ℕ, zero, suc, Bool, true, false, List, [], ◌∷◌, Result, Ok, Err}
 use Rattle.answers.specs.Numbers.{number_of}
-use Rattle.answers.specs.declared.Verdict.{Verdict}
-use Rattle.answers.specs.declared.Verdict.TheVariants.{Accepted, Refused}
+use Rattle.answers.specs.declared.Refusal.{Refusal}
+use Rattle.answers.specs.declared.Stopped.{Stopped}
+use Rattle.answers.specs.declared.Stopped.TheVariants.{Refused, UnknownAt}
 
 -- "Each returns its number (10 also its place)": an operation accepts with what it answers, or refuses with the number and the values beside it
 pub data Said (A : Type 0) : Type 0 where
@@ -29,10 +30,25 @@ abbrev pub afterwards : {A B : Type 0} → Said A → B → B → B
 afterwards (accepted a) old new = new
 afterwards (refused n values) old new = old
 
+-- what the code answers in these words: a value, or a refusal with its number
+abbrev pub said : {A : Type 0} → Result A Refusal → Said A
+said (Ok a) = accepted a
+said (Err r) = refused (number_of r) []
+
+-- "(10 also its place)": what ends a walk
+abbrev pub refused_by : {A : Type 0} → Stopped → Said A
+refused_by (Refused r) = refused (number_of r) []
+refused_by (UnknownAt p) = refused 10 (p ∷ [])
+
+-- the same of what a walk answers
+abbrev pub said_stopped : {A : Type 0} → Result A Stopped → Said A
+said_stopped (Ok a) = accepted a
+said_stopped (Err stopped) = refused_by stopped
+
 -- a check's answer in these words
-abbrev pub said_verdict : Verdict → Said (Unit {0})
-said_verdict Accepted = accepted tt
-said_verdict (Refused r) = refused (number_of r) []
+abbrev pub said_verdict : Result (Unit {0}) Refusal → Said (Unit {0})
+said_verdict (Ok done) = accepted tt
+said_verdict (Err r) = refused (number_of r) []
 
 -- "Each returns its number": 0 for accepted
 abbrev pub number_said : {A : Type 0} → Said A → ℕ

@@ -5,12 +5,13 @@ use mathlib.Core.Path.{◌≡◌, sym, ap, ◌∙◌}
 use mathlib.Core.List.{List}
 use mathlib.Core.Bool.{Bool}
 use lib.ListN.{length}
-use Rattle.answers.specs.Answers.{Said, accepted, unless_refused, afterwards}
+use Rattle.std.specs.Prelude.{Result}
+use Rattle.answers.specs.declared.Refusal.{Refusal}
+use Rattle.answers.specs.Answers.{Said, accepted, said, unless_refused, afterwards}
 use Rattle.answers.proofs.Orders.{accepted_unrefused}
 use Rattle.fields.specs.Runs.{over}
 use Rattle.append.specs.Bytes.{Item, encoded, size_of}
-use Rattle.append.specs.Append.{Appends, said, append_refusal, append_of}
-use Rattle.append.specs.declared.Appended.{Appended}
+use Rattle.append.specs.Append.{Appends, append_refusal, append_of}
 use Rattle.append.proofs.Acceptance.{Accepted, accepted_facts}
 
 -- what a call's contract and its accepting answer tell together: the new used count, and the region with the entry written
@@ -19,7 +20,7 @@ pub record Wrote (mark : ℕ → ℕ) (region : List ℕ) (used : ℕ) (allowed 
   pub grown : next ≡ used + size_of i
   pub bytes : after ≡ over region used (encoded (mark used) i)
 
-pub wrote : (mark : ℕ → ℕ) (region : List ℕ) (used : ℕ) (allowed : Bool) (i : Item) {first : ℕ} {answer : Appended} {next : ℕ} {after : List ℕ} → Appends first mark region used allowed i answer after → said answer ≡ accepted next → Wrote mark region used allowed i next after
+pub wrote : (mark : ℕ → ℕ) (region : List ℕ) (used : ℕ) (allowed : Bool) (i : Item) {first : ℕ} {answer : Result ℕ Refusal} {next : ℕ} {after : List ℕ} → Appends first mark region used allowed i answer after → said answer ≡ accepted next → Wrote mark region used allowed i next after
 unfolding append_of
 wrote mark region used allowed i {first} {answer} {next} {after} a e =
     let yes : unless_refused first (append_of region used allowed i) ≡ accepted next = sym a.says ∙ e in

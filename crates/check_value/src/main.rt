@@ -8,37 +8,29 @@ const CHECK: u16 = 0x29b1;
 
 const INIT: u16 = 0xffff;
 
-fn wide(x: u16) -> u64 {
-    x as u64
-}
-
-fn write(out: &impl Print, text: &[u8]) -> io::Result<()> {
-    out.write_all(text)
-}
-
 // Ends a line that names a run: its sum, what the catalogue says, and whether they agree.
 fn compare(out: &impl Print, sum: u16, catalogue: u16) -> io::Result<()> {
-    print!(out; "  {:04x}  {:04x}", wide(sum), wide(catalogue))?;
-    if sum == catalogue {
-        write(out, b"  agrees\n")
+    let verdict = if sum == catalogue {
+        "agrees"
     } else {
-        write(out, b"  DIFFERS\n")
-    }
+        "DIFFERS"
+    };
+    println!(out; "  {sum:04x}  {catalogue:04x}  {verdict}")
 }
 
 fn whole(out: &impl Print, digits: &[u8]) -> io::Result<()> {
-    write(out, b"\"")?;
-    write(out, digits)?;
-    write(out, b"\"     ")?;
+    print!(out; "\"")?;
+    out.write_all(digits)?;
+    print!(out; "\"     ")?;
     compare(out, checksum::hash(digits), CHECK)
 }
 
 fn in_two(out: &impl Print, first: &[u8], rest: &[u8]) -> io::Result<()> {
-    write(out, b"\"")?;
-    write(out, first)?;
-    write(out, b"\" + \"")?;
-    write(out, rest)?;
-    write(out, b"\"")?;
+    print!(out; "\"")?;
+    out.write_all(first)?;
+    print!(out; "\" + \"")?;
+    out.write_all(rest)?;
+    print!(out; "\"")?;
     compare(out, checksum::update(checksum::hash(first), rest), CHECK)
 }
 
@@ -51,12 +43,11 @@ fn at_each_place(out: &impl Print, digits: &[u8]) -> io::Result<()> {
 
 fn main(rt: HostRuntime) -> io::Result<()> {
     let digits = b"123456789";
-    write(
-        &rt,
-        b"CRC-16/IBM-3740 of a run of bytes, what the catalogue says of it, and whether they agree:\n",
+    println!(rt;
+        "CRC-16/IBM-3740 of a run of bytes, what the catalogue says of it, and whether they agree:"
     )?;
     whole(&rt, digits)?;
     at_each_place(&rt, digits)?;
-    write(&rt, b"no bytes        ")?;
+    print!(rt; "no bytes        ")?;
     compare(&rt, checksum::hash(b""), INIT)
 }

@@ -1,53 +1,11 @@
 -- Exclusive or as addition: the laws that lib.Bits leaves out, and that every other file here counts with.
 -- Assumes nothing.
-use mathlib.Core.Path.{◌≡◌, refl, sym, ap, ap₂, ◌∙◌}
-use Prim.Native.Nat.{ℕ, zero, suc, ◌+◌, ◌*◌, ◌/◌, ◌%◌, ◌^◌, ◌<◌}
-use native.Mathlib.Nat.{mod-lt, add-zero}
-use native.Mathlib.Omega.{arith}
-use lib.Arith.{bin_ind, digits_mod}
-use lib.Dec.{lit<}
+use mathlib.Core.Path.{◌≡◌, sym, ap, ap₂, ◌∙◌}
+use Prim.Native.Nat.{ℕ, ◌*◌, ◌^◌}
+use native.Mathlib.Nat.{add-zero}
 use lib.Pow.{pow_pos}
-use lib.Bits.{bit_xor, differ, xor_step, xor_comm, xor_shr, xor_block, xor_self, xor_zero_r}
-
--- of two digits
-differ_lt : (x y : ℕ) → x < 2 → y < 2 → differ x y < 2
-differ_lt zero y hx hy = hy
-differ_lt (suc x) zero hx hy = hx
-differ_lt (suc x) (suc y) hx hy = differ_lt x y (omega arith) (omega arith)
-
-differ_assoc : (x y z : ℕ) → x < 2 → y < 2 → z < 2 → differ (differ x y) z ≡ differ x (differ y z)
-differ_assoc zero y z hx hy hz = refl
-differ_assoc (suc zero) zero z hx hy hz = refl
-differ_assoc (suc zero) (suc zero) zero hx hy hz = refl
-differ_assoc (suc zero) (suc zero) (suc zero) hx hy hz = refl
-differ_assoc (suc zero) (suc zero) (suc (suc z)) hx hy hz = absurd (omega arith)
-differ_assoc (suc zero) (suc (suc y)) z hx hy hz = absurd (omega arith)
-differ_assoc (suc (suc x)) y z hx hy hz = absurd (omega arith)
-
--- of a number's lowest digit, and of the rest
-digit : (a : ℕ) → a % 2 < 2
-digit a = mod-lt a (lit< tt)
-
-xor_digit : (a b : ℕ) → bit_xor a b % 2 ≡ differ (a % 2) (b % 2)
-xor_digit a b =
-    ap (λ (x : ℕ). x % 2) (xor_step a b)
-    ∙ digits_mod (bit_xor (a / 2) (b / 2)) (differ_lt (a % 2) (b % 2) (digit a) (digit b))
-
-xor_half : (a b : ℕ) → bit_xor a b / 2 ≡ bit_xor (a / 2) (b / 2)
-xor_half a b = xor_shr a b 1
-
--- digit by digit, from the lowest
-pub xor_assoc : (a b c : ℕ) → bit_xor (bit_xor a b) c ≡ bit_xor a (bit_xor b c)
-xor_assoc a =
-    bin_ind (λ (n : ℕ). (b c : ℕ) → bit_xor (bit_xor n b) c ≡ bit_xor n (bit_xor b c)) (λ b c. refl)
-    (λ n ih b c.
-    xor_step (bit_xor n b) c
-    ∙ ap₂ (λ (x y : ℕ). bit_xor x (c / 2) * 2 + differ y (c % 2)) (xor_half n b) (xor_digit n b)
-    ∙ ap₂ (λ (x y : ℕ). x * 2 + y) (ih (b / 2) (c / 2))
-    (differ_assoc (n % 2) (b % 2) (c % 2) (digit n) (digit b) (digit c))
-    ∙ sym (ap₂ (λ (x y : ℕ). bit_xor (n / 2) x * 2 + differ (n % 2) y) (xor_half b c) (xor_digit b c))
-    ∙ sym (xor_step n (bit_xor b c)))
-    a
+use lib.Bits.{bit_xor, xor_comm, xor_block, xor_self, xor_zero_r}
+pub use lib.Bits.{xor_assoc}
 
 -- the last two of three change places
 pub xor_swap : (a b c : ℕ) → bit_xor (bit_xor a b) c ≡ bit_xor (bit_xor a c) b

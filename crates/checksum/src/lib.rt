@@ -6,10 +6,9 @@
 
 ghost use Rattle.std.specs.Prelude.{◌≡◌};
 ghost use Rattle.checksum.specs.Catalogue.{byte, crc_from, crc16};
-ghost use Rattle.checksum.specs.Table.{entries};
 
 // At place k: the register after the eight bits of the byte k, from a register of zeros.
-const TABLE: [u16; 256] = [
+static TABLE: [u16; 256] = [
     0x0000, 0x1021, 0x2042, 0x3063, 0x4084, 0x50a5, 0x60c6, 0x70e7, 0x8108, 0x9129, 0xa14a, 0xb16b,
     0xc18c, 0xd1ad, 0xe1ce, 0xf1ef, 0x1231, 0x0210, 0x3273, 0x2252, 0x52b5, 0x4294, 0x72f7, 0x62d6,
     0x9339, 0x8318, 0xb37b, 0xa35a, 0xd3bd, 0xc39c, 0xf3ff, 0xe3de, 0x2462, 0x3443, 0x0420, 0x1401,
@@ -35,7 +34,7 @@ const TABLE: [u16; 256] = [
 ];
 
 // At place k: the register after the byte k and a byte of zeros, from a register of zeros.
-const SECOND_TABLE: [u16; 256] = [
+static SECOND_TABLE: [u16; 256] = [
     0x0000, 0x3331, 0x6662, 0x5553, 0xccc4, 0xfff5, 0xaaa6, 0x9997, 0x89a9, 0xba98, 0xefcb, 0xdcfa,
     0x456d, 0x765c, 0x230f, 0x103e, 0x0373, 0x3042, 0x6511, 0x5620, 0xcfb7, 0xfc86, 0xa9d5, 0x9ae4,
     0x8ada, 0xb9eb, 0xecb8, 0xdf89, 0x461e, 0x752f, 0x207c, 0x134d, 0x06e6, 0x35d7, 0x6084, 0x53b5,
@@ -62,52 +61,44 @@ const SECOND_TABLE: [u16; 256] = [
 
 // The register after one byte. The byte and the register's upper half meet in the eight bits that
 // leave, and the table knows what these bring; the lower half only moves up.
-fn step_byte(table: &[u16; 256], state: u16, b: u8) -> u16
-    requires { table.now ≡ entries 8 }
+#[tactic(auto, using(crate::proofs::Rule::byte_by_table))]
+fn step_byte(state: u16, b: u8) -> u16
     ensures { result ≡ byte state b }
 {
-    (state << 8) ^ table[((state >> 8) ^ (b as u16)) as usize]
+    (state << 8) ^ TABLE[((state >> 8) ^ (b as u16)) as usize]
 }
 
 // The register after two bytes. The first byte meets the register's upper half, and sixteen bits take
 // the two to the second table's entry. The second byte meets the lower half, which the first eight bits
 // only move up, and the other eight take the two to the first table's entry.
-#[tactic(auto, using(crate::proofs::Linear::place_lt, crate::proofs::Linear::lower_place_lt))]
-fn step_pair(table: &[u16; 256], second: &[u16; 256], state: u16, a: u8, b: u8) -> u16
-    requires { (table.now ≡ entries 8) × (second.now ≡ entries 16) }
+#[tactic(auto, using(crate::proofs::Rule::pair_by_tables))]
+fn step_pair(state: u16, a: u8, b: u8) -> u16
     ensures { result ≡ byte (byte state a) b }
 {
-    second[((state >> 8) ^ (a as u16)) as usize] ^ table[((state % 256) ^ (b as u16)) as usize]
+    let upper = (state >> 8) ^ (a as u16);
+    let lower = (state % 256) ^ (b as u16);
+    SECOND_TABLE[upper as usize] ^ TABLE[lower as usize]
 }
 
-// The register after a run of bytes: two at a time, and where their number is odd the last by itself.
-fn run(table: &[u16; 256], second: &[u16; 256], state: u16, bytes: &[u8]) -> u16
-    requires { (table.now ≡ entries 8) × (second.now ≡ entries 16) }
+// The sum of a run that goes on: `update(hash(a), b)` is the hash of a with b after it. Two bytes are
+// taken at a time, and where their number is odd the last by itself.
+#[tactic(auto, using(crate::proofs::Runs::crc_from_next, crate::proofs::Runs::crc_from_chunk, crate::proofs::Runs::crc_from_end))]
+pub fn update(state: u16, bytes: &[u8]) -> u16
     ensures { result ≡ crc_from state bytes.now }
 {
+    let (pairs, rest) = bytes.as_chunks::<2>();
     let mut r = state;
-    let mut i = 0;
-    while i + 1 < bytes.len() {
-        r = step_pair(table, second, r, bytes[i], bytes[i + 1]);
-        i += 2;
+    for &[a, b] in pairs {
+        r = step_pair(r, a, b);
     }
-    if i < bytes.len() {
-        return step_byte(table, r, bytes[i]);
+    for &b in rest {
+        r = step_byte(r, b);
     }
     r
 }
 
-// The sum of a run that goes on: `update(hash(a), b)` is the hash of a with b after it. The tables are
-// copied to the stack once a call, because an index into a constant would build it at each index.
-pub fn update(state: u16, bytes: &[u8]) -> u16
-    ensures { result ≡ crc_from state bytes.now }
-{
-    let table = TABLE;
-    let second = SECOND_TABLE;
-    run(&table, &second, state, bytes)
-}
-
 // The sum of a run of bytes.
+#[tactic(auto, unfolding(crate::specs::Catalogue::crc16))]
 pub fn hash(bytes: &[u8]) -> u16
     ensures { result ≡ crc16 bytes.now }
 {

@@ -9,21 +9,21 @@ use native.Mathlib.Omega.{arith}
 use borrow.Author.Tests.{eq-eqb, ne_eqb}
 use lib.Dec.{eqb, ltb}
 use lib.ListN.{length}
-use Rattle.answers.specs.Answers.{Said, accepted, refused, pick_number, first_of, number_said, value_out}
+use Rattle.answers.specs.Answers.{Said, accepted, refused, pick_number, first_of, said_stopped}
 use Rattle.answers.specs.Limits.{largest_region}
 use Rattle.answers.specs.Versions.{version_refusal}
 use Rattle.answers.proofs.Orders.{accepted_unrefused}
 use Rattle.entry.specs.Words.{mark_of}
 use Rattle.entry.specs.declared.Entry.{Entry}
+use Rattle.std.specs.Prelude.{Ok}
 use Rattle.scan.specs.Walk.{Step, found, ended, walk}
 use Rattle.scan.specs.Listing.{grow, list_most, list}
 use Rattle.scan.proofs.Walks.{walk_found, stands_kind, stands_namespace}
 use Rattle.tail.specs.Tail.{used_bound, unless_stopped}
 use Rattle.tail.proofs.Zeros.{below_or}
-use Rattle.counts.specs.Grid.{Grid, of_kind, count_of, along, grid_of, no_grid}
-use Rattle.counts.specs.Counts.{counts_listed, counts_of, counts_in, CountsOut}
+use Rattle.counts.specs.Grid.{Grid, of_kind, count_of, along, grid_of}
+use Rattle.counts.specs.Counts.{counts_listed, counts_of, counts_in}
 use Rattle.counts.specs.Totals.{sum, total}
-use Rattle.counts.proofs.Refusals.{never_refused_0}
 
 abbrev one : Bool → ℕ
 one b = pick_number b 1 0
@@ -130,12 +130,6 @@ accepted_total version ordinal s {grid} e =
     ap total (sym (counts_grid m s (accepted_unrefused (version_refusal version) (counts_of m s) e).1))
     ∙ total_listed m s (used_bound s) 0
 
--- and of what was handed back with 0
-pub told_total : (version ordinal : ℕ) (s : List ℕ) (grid : Grid) (answer old place : ℕ) → CountsOut (counts_in version ordinal s) grid answer old place → answer ≡ 0 → total grid ≡ length (list (mark_of version ordinal) s (used_bound s) 0).entries
-told_total version ordinal s grid answer old place out none = go (counts_in version ordinal s) refl
-  where
-    go : (counts : Said Grid) → counts_in version ordinal s ≡ counts → total grid ≡ length (list (mark_of version ordinal) s (used_bound s) 0).entries
-    go (accepted told) q = ap total (out.tells ∙ ap (λ (x : Said Grid). value_out x no_grid) q) ∙ accepted_total version ordinal s q
-    go (refused n values) q =
-        let zero-said : n ≡ 0 = sym (out.says ∙ ap (λ (x : Said Grid). number_said x) q) ∙ none in
-        absurd (never_refused_0 version ordinal s (q ∙ ap (λ (k : ℕ). refused k values) zero-said))
+-- and of what the call answers
+pub told_total : (version ordinal : ℕ) (s : List ℕ) (grid : Grid) → said_stopped (Ok grid) ≡ counts_in version ordinal s → total grid ≡ length (list (mark_of version ordinal) s (used_bound s) 0).entries
+told_total version ordinal s grid e = accepted_total version ordinal s (sym e)

@@ -13,7 +13,7 @@ use Rattle.entry.specs.Words.{mark_from, version1, seed_of, mark_of, word_of, wo
 use Rattle.entry.specs.Layout.{head_length, length_of, placed, entry_at, agrees, intact, verifies}
 use Rattle.append.specs.Bytes.{item, head_of, covered_of, encoded}
 use Rattle.append.specs.Append.{append_of, append_refusal, append_tests}
-use Rattle.append.specs.declared.Appended.TheVariants.{Used}
+use Rattle.std.specs.Prelude.{Ok}
 use Rattle.scan.specs.Walk.{ended, trial, walk_lines, walk_from, walk}
 use Rattle.scan.specs.Listing.{list_most, list}
 use Rattle.scan.specs.Parts.{fits, part_of}
@@ -25,9 +25,9 @@ use Rattle.damage.specs.Examples.{listed_under, read_back_under, listed, read_ba
 pub appended_three : Logged version1 (around ten_bytes) 48 (nine ∷ ten ∷ gone ∷ [])
 unfolding IsLe over encoded covered_of head_of bytes_of word_of mark_from aligned head_length length_of crc16 crc_from byte steps step taken is_version version_refusal append_of append_refusal append_tests
 appended_three =
-    tombstone_appended {first = version_refusal 1} {answer = Used 48}
-    (data-appended {first = version_refusal 1} {answer = Used 32}
-    (data-appended {first = version_refusal 1} {answer = Used 16} (zeroed 64 (le_by_compare 64 268435456 tt)) (record { says = refl; leaves = refl }) refl)
+    tombstone_appended {first = version_refusal 1} {answer = Ok 48}
+    (data-appended {first = version_refusal 1} {answer = Ok 32}
+    (data-appended {first = version_refusal 1} {answer = Ok 16} (zeroed 64 (le_by_compare 64 268435456 tt)) (record { says = refl; leaves = refl }) refl)
     (record { says = refl; leaves = refl }) refl)
     (record { says = refl; leaves = refl }) refl
 

@@ -1,14 +1,14 @@
 -- Demand 3, "after accepted appends to a zeroed region from offset 0": the logs that calls of the two appends lead to, over any mark rule,
 -- and where their entries stand.
 -- Assumes nothing.
-use Rattle.std.specs.Prelude.{ℕ, ◌+◌, ◌≤◌, ◌≡◌, true, List, [], ◌∷◌, ◌++◌, length, replicate}
-use Rattle.answers.specs.Answers.{accepted}
+use Rattle.std.specs.Prelude.{ℕ, ◌+◌, ◌≤◌, ◌≡◌, true, List, [], ◌∷◌, ◌++◌, length, replicate, Result}
+use Rattle.answers.specs.Answers.{accepted, said}
+use Rattle.answers.specs.declared.Refusal.{Refusal}
 use Rattle.answers.specs.Limits.{largest_region}
 use Rattle.entry.specs.Layout.{placed}
 use Rattle.entry.specs.declared.Entry.{Entry}
 use Rattle.append.specs.Bytes.{Item, item, size_of}
-use Rattle.append.specs.Append.{Appends, said, data_kind}
-use Rattle.append.specs.declared.Appended.{Appended}
+use Rattle.append.specs.Append.{Appends, data_kind}
 
 -- a region, the used count that was answered last, and what was appended so far, in order. Each step takes the contract of the call that was
 -- made, `Appends`, at the used count just answered, and that the call's answer was an accepting one: so whatever refusal would have come first,
@@ -16,12 +16,12 @@ use Rattle.append.specs.declared.Appended.{Appended}
 pub data Logged (mark : ℕ → ℕ) : List ℕ → ℕ → List Item → Type 0 where
   -- "a zeroed region", of a size that the operations take, and "offset 0"
   zeroed : (n : ℕ) → n ≤ largest_region → Logged mark (replicate n 0) 0 []
-  data-appended : {region after key value : List ℕ} {first used next kind ns : ℕ} {items : List Item} {answer : Appended}
+  data-appended : {region after key value : List ℕ} {first used next kind ns : ℕ} {items : List Item} {answer : Result ℕ Refusal}
       → Logged mark region used items
       → Appends first mark region used (data_kind kind) (item kind ns key value) answer after
       → said answer ≡ accepted next
       → Logged mark after next (items ++ item kind ns key value ∷ [])
-  tombstone_appended : {region after key : List ℕ} {first used next ns : ℕ} {items : List Item} {answer : Appended}
+  tombstone_appended : {region after key : List ℕ} {first used next ns : ℕ} {items : List Item} {answer : Result ℕ Refusal}
       → Logged mark region used items
       → Appends first mark region used true (item 2 ns key []) answer after
       → said answer ≡ accepted next

@@ -8,27 +8,22 @@
 
 ghost use Rattle.std.specs.Prelude.{◌≡◌, ◌+◌, ◌*◌, ◌/◌, ◌≤◌, length};
 
-use card::{write, write_end, write_number};
-use header::HeaderRead;
+use answers::LogFile;
+use card::Fault;
 use std::io;
-use tail::{DurableEnd, UsedBound};
 
 // A count beside its bound, and in words what that bound is. No count is ever written beside a bound
 // that it exceeds: callers prove that it doesn't.
 fn write_count(
     out: &impl Print,
-    name: &[u8],
+    name: &str,
     count: usize,
     most: usize,
-    rule: &[u8],
+    rule: &str,
 ) -> io::Result<()>
     requires { count ≤ most }
 {
-    write(out, name)?;
-    write_number(out, count)?;
-    write(out, b" of at most ")?;
-    write_number(out, most)?;
-    write(out, rule)
+    println!(out; "{name} {count} of at most {most}, {rule}")
 }
 
 // "Lines tried are at most the bound divided by 16, rounded up"
@@ -48,64 +43,39 @@ fn most_bytes(lines: usize) -> usize
 }
 
 // What the durable end up to the bound takes, and the end.
-fn report_effort(
-    out: &impl Print,
-    region: &[u8],
-    version: u64,
-    ordinal: u64,
-    bound: usize,
-) -> io::Result<()>
+fn report_effort(out: &impl Print, region: &[u8], file: LogFile, bound: usize) -> io::Result<()>
     requires { bound ≤ 1048576 }
 {
-    let counted = tail::durable_end(region, version, ordinal, bound);
-    let end = counted.end;
+    let counted = tail::durable_end(region, file, bound);
     let effort = counted.effort;
-    write(out, b"used bound ")?;
-    write_number(out, bound)?;
+    println!(out; "used bound {bound}")?;
     write_count(
         out,
-        b"\nlines tried ",
+        "lines tried",
         effort.lines,
         most_lines(bound),
-        b", the bound divided by 16 and rounded up",
+        "the bound divided by 16 and rounded up",
     )?;
     write_count(
         out,
-        b"\nbytes checksummed ",
+        "bytes checksummed",
         effort.bytes,
         most_bytes(effort.lines),
-        b", 131078 for each line tried\n",
+        "131078 for each line tried",
     )?;
-    write_end(out, end)
+    card::write_end(out, counted.end)
 }
 
-fn report_data(out: &impl Print, region: &[u8], version: u64, ordinal: u64) -> io::Result<()>
-    requires { length region.now ≤ 1048576 }
-{
-    let used = tail::used_bound(region);
-    match used {
-        UsedBound::Bound(bound) => report_effort(out, region, version, ordinal, bound),
-        UsedBound::Refused(refusal) => write_end(out, DurableEnd::Refused(refusal)),
-    }
-}
-
-fn report_card(out: &impl Print, card: &[u8]) -> io::Result<()>
+fn report_card(out: &impl Print, card: &[u8]) -> Result<(), Fault>
     requires { length card.now ≤ 1052672 }
 {
-    let read = header::read_header(card);
-    match read {
-        HeaderRead::Header { version, ordinal } => {
-            report_data(out, &card[header::HEADER_LENGTH..], version, ordinal)
-        }
-        HeaderRead::Refused(refusal) => write_end(out, DurableEnd::Refused(refusal)),
-    }
+    let (file, region) = card::file_and_data(card)?;
+    let bound = tail::used_bound(region)?;
+    report_effort(out, region, file, bound)?;
+    Ok(())
 }
 
 fn main(rt: HostRuntime) -> io::Result<()> {
     let mut room = card::room();
-    let n = card::read_full(&mut rt.stdin(), &mut room);
-    if card::is_whole(&rt, n, room.len(), b"effort")? {
-        report_card(&rt, &room[..n])?;
-    }
-    Ok(())
+    card::on_card(&rt, &mut room, "effort", |card| report_card(&rt, card))
 }

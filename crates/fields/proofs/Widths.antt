@@ -1,12 +1,15 @@
 -- Little-endian fields, each law once for every width.
 -- Assumes nothing.
-use Prim.Native.Nat.{ℕ, zero, suc, ◌+◌, ◌*◌, ◌/◌, ◌%◌, ◌^◌, ◌<◌}
-use mathlib.Core.Path.{◌≡◌, refl, sym, ap, ap₂, ◌∙◌}
+use Prim.Native.Nat.{ℕ, zero, suc, ◌+◌, ◌-◌, ◌*◌, ◌/◌, ◌%◌, ◌^◌, ◌<◌, ◌≤◌}
+use mathlib.Core.Path.{◌≡◌, refl, sym, ap, ap₂, subst, ◌∙◌}
 use mathlib.Core.List.{List, ◌∷◌, ◌++◌}
-use native.Mathlib.Nat.{pow-suc, pow-succ', mul_assoc, div-div-eq-div-mul, div-lt_iff_lt-mul, div-one, mul-one, zero-add, add-zero, add_comm}
+use native.Mathlib.Nat.{pow-suc, mul_assoc, div-div-eq-div-mul, div-lt_iff_lt-mul, div-one, mul-one, zero-add, add-zero, add_comm}
 use native.Mathlib.Numerals.{add-one}
 use native.Mathlib.Omega.{arith}
-use lib.ListN.{length, get_or}
+use lib.ListN.{length, take, drop, get_or, replicate, length-drop}
+use lib.Seq.{length-take-le, get_or-take}
+use Rattle.std.proofs.lemmas.List.{get_or_append_left, get_or-append-add, get_or-drop, get_or-replicate}
+use Rattle.std.specs.Int.{w64, from_le_bytes, to_le_bytes, bytes_low_first, byte_at}
 use Rattle.fields.specs.Numbers.{field, bytes_of}
 
 -- a field is its bytes: two places with the same n bytes hold the same number
@@ -76,12 +79,63 @@ field_bytes (suc n) v rest h =
     field_same n (v % 256 ∷ (bytes_of n (v / 256) ++ rest)) (bytes_of n (v / 256) ++ rest) 1 0 (λ i l. simp (add_comm 1 i, add-one i, zero-add i)) ∙ field_bytes n (v / 256) rest less in
     omega arith
 
--- the bytes of a wider number are those of its lower part, then those of its upper
-pub bytes_join : (m n v : ℕ) → bytes_of (m + n) v ≡ bytes_of m v ++ bytes_of n (v / 256 ^ m)
+-- ---- as std reads and writes eight bytes
+
+field_eight : (bytes : List ℕ) → from_le_bytes w64 bytes ≡ field 8 bytes 0
+unfolding field
+field_eight bytes = omega arith
+
+field_zeros : (n : ℕ) (s : List ℕ) (p : ℕ) → ((i : ℕ) → i < n → get_or s (p + i) 0 ≡ 0) → field n s p ≡ 0
+unfolding field
+field_zeros zero s p h = refl
+field_zeros (suc n) s p h =
+    let first : get_or s p 0 ≡ 0 = ap (λ (k : ℕ). get_or s k 0) (sym (add-zero p)) ∙ h 0 (omega arith) in
+    let shift : (i : ℕ) → p + 1 + i ≡ p + suc i = λ i. omega arith in
+    let rest : field n s (p + 1) ≡ 0 = field_zeros n s (p + 1) (λ i l. ap (λ (k : ℕ). get_or s k 0) (shift i) ∙ h (suc i) (omega arith)) in
+    omega arith
+
+-- a field of t is a narrower one of s where all above that is zeros
+field_padded : (n m : ℕ) (s t : List ℕ) (p : ℕ) → ((i : ℕ) → i < n → get_or t i 0 ≡ get_or s (p + i) 0) → ((i : ℕ) → i < m → get_or t (n + i) 0 ≡ 0) → field (n + m) t 0 ≡ field n s p
+field_padded n m s t p same zeros =
+    field_join n m t 0
+    ∙ ap₂ (λ (a b : ℕ). a + b * 256 ^ n)
+    (field_same n t s 0 p (λ i h. ap (λ (k : ℕ). get_or t k 0) (zero-add i) ∙ same i h))
+    (field_zeros m t (0 + n) (λ i h. ap (λ (k : ℕ). get_or t (k + i) 0) (zero-add n) ∙ zeros i h))
+    ∙ omega arith
+
+zeros_behind : (n m i z : ℕ) → n + i < m → get_or (drop n (replicate m z)) i z ≡ z
+zeros_behind n m i z h = get_or-drop n (replicate m z) i z ∙ get_or-replicate m (n + i) z z h
+
+-- so eight bytes that were zeros, with n others over the first of them, hold what these hold
+pub field_read : (n : ℕ) (s : List ℕ) (p r : ℕ) {bytes : List ℕ} → r ≡ from_le_bytes w64 (bytes ++ drop n (replicate 8 0)) → bytes ≡ take (p + n - p) (drop p s) → p + n ≤ length s → n ≤ 8 → ((i : ℕ) → get_or s i 0 < 256) → (r ≡ field n s p) × (r < 256 ^ n)
+field_read n s p r {bytes} e copied inside width small =
+    let t = bytes ++ drop n (replicate 8 0) in
+    let part : p + n - p ≡ n = omega arith in
+    let long : length bytes ≡ n = ap length copied ∙ length-take-le (p + n - p) (drop p s) (simp length-drop (omega arith)) ∙ part in
+    let same : (i : ℕ) → i < n → get_or t i 0 ≡ get_or s (p + i) 0 =
+    λ i h.
+    get_or_append_left bytes _ 0 i (omega arith)
+    ∙ ap (λ (bs : List ℕ). get_or bs i 0) copied
+    ∙ get_or-take (p + n - p) (drop p s) i 0 (omega arith)
+    ∙ get_or-drop p s i 0 in
+    let zeros : (i : ℕ) → i < 8 - n → get_or t (n + i) 0 ≡ 0 =
+    λ i h. ap (λ (k : ℕ). get_or t (k + i) 0) (sym long) ∙ get_or-append-add bytes _ i 0 ∙ zeros_behind n 8 i 0 (omega arith) in
+    let is : r ≡ field n s p =
+    e ∙ field_eight t ∙ ap (λ (k : ℕ). field k t 0) (omega arith) ∙ field_padded n (8 - n) s t p same zeros in
+    (is, subst (λ (x : ℕ). x < 256 ^ n) (sym is) (field_lt n s p small))
+
+byte_at_is : (i v : ℕ) → byte_at i v ≡ v / 256 ^ i % 256
+byte_at_is zero v = ap (λ (k : ℕ). k % 256) (sym (div-one v))
+byte_at_is (suc i) v = refl
+
+-- the first n of the bytes that std makes of a number
+bytes_taken : (n k i v : ℕ) → n ≤ k → take n (bytes_low_first i k v) ≡ bytes_of n (v / 256 ^ i)
 unfolding bytes_of
-bytes_join zero n v = ap (λ (k : ℕ). bytes_of k v) (zero-add n) ∙ ap (bytes_of n) (sym (div-one v))
-bytes_join (suc m) n v =
-    let e : suc m + n ≡ suc (m + n) = omega arith in
-    ap (λ (k : ℕ). bytes_of k v) e
-    ∙ ap (λ (bs : List ℕ). v % 256 ∷ bs)
-    (bytes_join m n (v / 256) ∙ ap (λ (k : ℕ). bytes_of m (v / 256) ++ bytes_of n k) (div-div-eq-div-mul v 256 (256 ^ m) ∙ ap (λ (k : ℕ). v / k) (sym (pow-succ' 256 m))))
+bytes_taken zero k i v h = refl
+bytes_taken (suc n) zero i v h = absurd (omega arith)
+bytes_taken (suc n) (suc k) i v h =
+    ap₂ (λ (b : ℕ) (bs : List ℕ). b ∷ bs) (byte_at_is i v)
+    (bytes_taken n k (suc i) v (omega arith) ∙ ap (bytes_of n) (ap (λ (x : ℕ). v / x) (pow-suc 256 i) ∙ sym (div-div-eq-div-mul v (256 ^ i) 256)))
+
+pub bytes_eight : (n v : ℕ) → n ≤ 8 → take n (to_le_bytes w64 v) ≡ bytes_of n v
+bytes_eight n v h = bytes_taken n 8 0 v h ∙ ap (bytes_of n) (div-one v)

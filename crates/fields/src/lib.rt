@@ -1,98 +1,61 @@
 // Numbers in bytes, lines, and runs of bytes put over a region.
 //
 // These are building blocks: each asks of its caller that its bytes lie within the slice, and the
-// prover holds every caller to that. None of them is a public operation of the locker log.
+// prover holds every caller to that. None of them is a public operation of the locker log. A slice and
+// a place stay two parameters: a struct for each pair would be no plainer.
 #![tactic(auto)]
 
 ghost use Rattle.std.specs.Prelude.{◌≡◌, ◌+◌, ◌^◌, ◌<◌, ◌≤◌, length, replicate};
 ghost use Rattle.fields.specs.Numbers.{field, bytes_of, aligned};
 ghost use Rattle.fields.specs.Runs.{over};
 
-fn wide(b: u8) -> u64
-    ensures { (result ≡ b) × (result < 256) }
+// The number in N bytes from p on. The caller has seen that they lie within s. The bytes go through
+// an array of eight and not through a loop: of that the compiler makes one load, even for a caller
+// that looks at the lower three alone, as the walk does at every line with a wrong mark.
+pub fn read<const N: usize>(s: &[u8], p: usize) -> u64
+    requires inside { p + N ≤ length s.now }
+    requires width { N ≤ 8 }
+    ensures { (result ≡ field N s.now p) × (result < 256 ^ N) }
 {
-    b as u64
+    let mut bytes = [0; 8];
+    bytes[..N].copy_from_slice(&s[p..p + N]);
+    u64::from_le_bytes(bytes)
 }
 
-// The number in two bytes from p on. The caller has seen that they lie within s.
-pub fn read16(s: &[u8], p: usize) -> u64
-    requires { p + 2 ≤ length s.now }
-    ensures { (result ≡ field 2 s.now p) × (result < 2 ^ 16) }
+// The N lowest bytes of v, from `at` on. The caller has seen that they lie within the region.
+#[tactic(auto, using(crate::proofs::Widths::bytes_eight))]
+pub fn put<const N: usize>(region: &mut [u8], at: usize, v: u64)
+    requires inside { at + N ≤ length region.old }
+    requires width { N ≤ 8 }
+    ensures { region.new ≡ over region.old at (bytes_of N v) }
 {
-    wide(s[p]) + wide(s[p + 1]) * 256
+    put_run(region, at, &v.to_le_bytes()[..N]);
 }
 
-// The number in four bytes from p on. The caller has seen that they lie within s. All four bytes
-// stand in one sum, not in two halves: so the compiler makes one load of them even for a caller that
-// looks at the lower three alone, as the walk does at every line with a wrong mark.
-pub fn read32(s: &[u8], p: usize) -> u64
-    requires { p + 4 ≤ length s.now }
-    ensures { (result ≡ field 4 s.now p) × (result < 2 ^ 32) }
-{
-    wide(s[p]) + 256 * wide(s[p + 1]) + 65536 * wide(s[p + 2]) + 16777216 * wide(s[p + 3])
-}
-
-// The number in eight bytes from p on. The caller has seen that they lie within s.
-pub fn read64(s: &[u8], p: usize) -> u64
-    requires { p + 8 ≤ length s.now }
-    ensures { result ≡ field 8 s.now p }
-{
-    read32(s, p) + read32(s, p + 4) * 4294967296
-}
-
-// The two lowest bytes of v, from `at` on. The caller has seen that they lie within the region.
-pub fn put16(region: &mut [u8], at: usize, v: u64)
-    requires { at + 2 ≤ length region.old }
-    ensures { region.new ≡ over region.old at (bytes_of 2 v) }
-{
-    region[at] = (v % 256) as u8;
-    region[at + 1] = (v / 256 % 256) as u8;
-}
-
-// The four lowest bytes of v, from `at` on. The caller has seen that they lie within the region.
-pub fn put32(region: &mut [u8], at: usize, v: u64)
-    requires { at + 4 ≤ length region.old }
-    ensures { region.new ≡ over region.old at (bytes_of 4 v) }
-{
-    put16(region, at, v);
-    put16(region, at + 2, v / 65536);
-}
-
-// The eight bytes of v, from `at` on. The caller has seen that they lie within the region.
-pub fn put64(region: &mut [u8], at: usize, v: u64)
-    requires { at + 8 ≤ length region.old }
-    ensures { region.new ≡ over region.old at (bytes_of 8 v) }
-{
-    put32(region, at, v);
-    put32(region, at + 4, v / 4294967296);
-}
-
-// A copy of `run`, from `at` on. The caller has seen that it fits.
+// A copy of `run`, from `at` on. The caller has seen that it fits. A loop and no `copy_from_slice`, which
+// calls memmove: the library calls memcpy and memset alone (include/locker_log.h).
+#[tactic(auto, using(crate::proofs::Laying::over_part))]
 pub fn put_run(region: &mut [u8], at: usize, run: &[u8])
     requires { at + length run.now ≤ length region.old }
     ensures { region.new ≡ over region.old at run.now }
 {
-    let mut i = 0;
-    while i < run.len() {
+    for i in 0..run.len() {
         region[at + i] = run[i];
-        i += 1;
     }
 }
 
 // n times the same byte, from `at` on. The caller has seen that they fit.
+#[tactic(auto, using(crate::proofs::Laying::over_part))]
 pub fn fill(region: &mut [u8], at: usize, n: usize, byte: u8)
     requires { at + n ≤ length region.old }
     ensures { region.new ≡ over region.old at (replicate n byte) }
 {
-    let mut i = 0;
-    while i < n {
-        region[at + i] = byte;
-        i += 1;
-    }
+    region[at..at + n].fill(byte);
 }
 
 // n rounded up to a line. A length is below 2^63, and so is every sum that callers round up; from
 // 2^64 - 15 on there would be no line to round up to.
+#[tactic(auto, unfolding(crate::specs::Numbers::aligned))]
 pub fn align_up(n: usize) -> usize
     requires { n < 2 ^ 63 }
     ensures { result ≡ aligned n }

@@ -2,24 +2,20 @@
 -- elements have, and so have the fourth and the eighth power. One law over m, which is 1, 2, 4 or 8.
 -- Assumes nothing.
 use mathlib.Core.Path.{◌≡◌, sym, ap, ap₂, subst, ◌∙◌}
-use Prim.Native.Nat.{ℕ, zero, suc, ◌+◌, ◌*◌, ◌/◌, ◌%◌, ◌^◌, ◌<◌, ◌≤◌}
-use native.Mathlib.Nat.{mod-lt, mul_assoc, mul_comm, div-eq_of_lt, lt_of_lt_of_le, lt_of_le_of_lt}
+use Prim.Native.Nat.{ℕ, zero, suc, ◌+◌, ◌-◌, ◌*◌, ◌/◌, ◌%◌, ◌^◌, ◌<◌, ◌≤◌}
+use native.Mathlib.Nat.{mod-lt, mul_assoc, mul_comm, div-eq_of_lt, mod-eq_of_lt, one-mul, lt_of_lt_of_le, lt_of_le_of_lt}
 use native.Mathlib.Omega.{arith}
 use lib.Arith.{bin_ind}
 use lib.Dec.{lit<}
-use lib.Pow.{pow_pos, pow_mono, split, shr-shr, shl-shr, shr_le}
-use lib.Bits.{bit_xor, xor_lt, xor_shr, xor_block, xor_shifted, xor_zero_r, xor_comm}
+use lib.Pow.{pow_pos, pow_mono, split, shr-shr, shl-shr, shr_le, shl_exact, mod-mod-pow}
+use lib.Bits.{bit_xor, xor_lt, xor_mod, xor_shr, xor_block, xor_shifted, xor_zero_r, xor_comm}
 use Rattle.checksum.specs.Remainder.{Multiple, nothing, plus}
-use Rattle.checksum.proofs.Xor.{xor_assoc, xor_four, xor_twice, xor_cancel, xor_shift}
+use Rattle.checksum.proofs.Xor.{xor_assoc, xor_swap, xor_four, xor_twice, xor_cancel, xor_shift}
 use Rattle.checksum.proofs.Divides.{multiple_sum, multiple_up}
 use Rattle.folds.specs.Leaves.{Same}
-use Rattle.folds.specs.Folded.{quotient, folded}
+use Rattle.folds.specs.Folded.{times, quotient, folded}
 
 -- ---- the powers of the polynomial, and their multiples
-
--- q times the m-th power, x ^ (16 * m) + x ^ (12 * m) + x ^ (5 * m) + 1
-unfoldable pub times : ℕ → ℕ → ℕ
-times m q = bit_xor (q * 2 ^ (16 * m)) (bit_xor (bit_xor q (q * 2 ^ (5 * m))) (q * 2 ^ (12 * m)))
 
 times_xor : (m x y : ℕ) → times m (bit_xor x y) ≡ bit_xor (times m x) (times m y)
 unfolding times
@@ -187,3 +183,26 @@ module _ (m x : ℕ) (h : x < 2 ^ (16 * m)) where
             ∙ ap (λ (u : ℕ). bit_xor u s) (sym (xor_shift w q (bit_xor u5 u12)) ∙ ap (λ (u : ℕ). u * 2 ^ w) g))
             (times_multiple m power q);
       }
+
+  -- ---- in the code, whose numbers have 128 bits: a shift to the left there, cut to fewer bits
+
+  cut : (k : ℕ) → 16 * m ≤ 128 → quotient m x * 2 ^ k % 2 ^ 128 % 2 ^ (16 * m) ≡ quotient m x * 2 ^ k % 2 ^ (16 * m)
+  cut k l =
+      let e : 128 ≡ 128 - 16 * m + 16 * m = omega arith in
+      ap (λ (n : ℕ). quotient m x * 2 ^ k % 2 ^ n % 2 ^ (16 * m)) e ∙ mod-mod-pow (quotient m x * 2 ^ k) (128 - 16 * m) (16 * m)
+
+  pub fold_code : {q : ℕ} → q ≡ quotient m x → m ≤ 4 → Multiple (times m 1)
+      → Same (x * 2 ^ (16 * m)) (bit_xor (bit_xor q (q * 2 ^ (12 * m) % 2 ^ 128)) (q * 2 ^ (5 * m) % 2 ^ 128) % (1 * 2 ^ (16 * m) % 2 ^ 128))
+  unfolding folded
+  fold_code {q} e l power =
+      let w = 16 * m in
+      let a = λ (n : ℕ). n * 2 ^ (5 * m) % 2 ^ 128 in
+      let b = λ (n : ℕ). n * 2 ^ (12 * m) % 2 ^ 128 in
+      let v = quotient m x in
+      let small : 1 * 2 ^ w % 2 ^ 128 ≡ 2 ^ w = shl_exact 1 w 128 (lit< tt) (omega arith) ∙ one-mul (2 ^ w) in
+      let is : bit_xor (bit_xor q (b q)) (a q) % (1 * 2 ^ w % 2 ^ 128) ≡ folded m x =
+      ap₂ (λ (n k : ℕ). bit_xor (bit_xor n (b n)) (a n) % k) e small
+      ∙ ap (λ (n : ℕ). n % 2 ^ w) (xor_swap v (b v) (a v))
+      ∙ xor_mod (bit_xor v (a v)) (b v) w
+      ∙ ap₂ bit_xor (xor_mod v (a v) w ∙ ap₂ bit_xor (mod-eq_of_lt quotient_lt) (cut (5 * m) (omega arith))) (cut (12 * m) (omega arith)) in
+      subst (λ (n : ℕ). Same (x * 2 ^ w) n) (sym is) (fold power)

@@ -6,119 +6,60 @@
 // Both public functions take any bytes, and answer what `checksum::update` and `checksum::hash` do.
 #![tactic(auto)]
 
-ghost use Rattle.std.specs.Prelude.{◌≡◌, ◌+◌, ◌*◌, ◌/◌, ◌%◌, ◌^◌, ◌<◌, ◌≤◌, length, drop};
-ghost use Rattle.std.specs.Int.Bits.{bit_xor};
+ghost use Rattle.std.specs.Prelude.{◌≡◌, ◌+◌, ◌*◌, ◌^◌, ◌<◌, ◌≤◌, length, drop};
 ghost use Rattle.checksum.specs.Catalogue.{byte, crc_from, crc16};
+ghost use Rattle.checksum.specs.Remainder.{Multiple};
 ghost use Rattle.folds.specs.Leaves.{Same, Reads, followed};
-ghost use Rattle.folds.specs.Folded.{quotient, folded, kept};
+ghost use Rattle.folds.specs.Folded.{times, quotient};
 
-// A register of 16 bits, moved up by 16 places: what is left of it in 16 bits. First comes the
-// quotient by the polynomial, then what the polynomial's lower terms bring for it.
-fn fold16(x: u16) -> u16
-    ensures { Same (x * 2 ^ 16) result }
+// How many times the polynomial's M-th power goes into a register of 16 * M bits that is moved up by
+// as many places.
+#[tactic(auto, unfolding(crate::specs::Folded::quotient))]
+fn quotient<const M: u32>(x: u128) -> u128
+    requires { M ≤ 8 }
+    ensures { result ≡ quotient M x }
 {
-    let y = x ^ (x >> 4);
-    let q = (y ^ (y >> 8)) ^ (x >> 11);
-    (q ^ (q << 5)) ^ (q << 12)
+    let y = x ^ (x >> (4 * M));
+    (y ^ (y >> (8 * M))) ^ (x >> (11 * M))
 }
 
-// The same of 32 bits, by the polynomial's square.
-fn fold32(x: u32) -> u32
-    ensures { Same (x * 2 ^ 32) result }
+// A register of 16 * M bits, moved up by as many places: what is left of it in 16 * M bits. It is
+// what the power's lower terms bring for the quotient. The highest of them is added first: added last,
+// it made a run of seven bytes a tenth slower.
+#[tactic(auto, using(crate::proofs::Folds::fold_code))]
+fn fold<const M: u32>(x: u64) -> u64
+    requires width { M ≤ 4 }
+    requires power { Multiple (times M 1) }
+    requires fits { x < 2 ^ (16 * M) }
+    ensures left { Same (x * 2 ^ (16 * M)) result }
+    ensures fits { result < 2 ^ (16 * M) }
 {
-    let y = x ^ (x >> 8);
-    let q = (y ^ (y >> 16)) ^ (x >> 22);
-    (q ^ (q << 10)) ^ (q << 24)
+    let q = quotient::<M>(x as u128);
+    (((q ^ (q << (12 * M))) ^ (q << (5 * M))) % (1 << (16 * M))) as u64
 }
 
-// The same of 64 bits, by the fourth power.
-fn fold64(x: u64) -> u64
-    ensures { Same (x * 2 ^ 64) result }
-{
-    let y = x ^ (x >> 16);
-    let q = (y ^ (y >> 32)) ^ (x >> 44);
-    (q ^ (q << 20)) ^ (q << 48)
-}
-
-// 128 bits, by the eighth power, in two halves. The quotient's upper half hangs on the upper half
-// alone.
-fn quotient_high(hi: u64) -> u64
-    ensures { result ≡ bit_xor hi (hi / 2 ^ 32) }
-{
-    hi ^ (hi >> 32)
-}
-
-// The quotient's lower half. What a shift moves out of the upper half comes in at the top.
-fn quotient_low(hi: u64, lo: u64) -> u64
-    ensures { result ≡ quotient 8 (hi * 2 ^ 64 + lo) % 2 ^ 64 }
-{
-    let up = quotient_high(hi);
-    (((hi << 32) ^ (hi >> 24)) ^ up) ^ (lo ^ (lo >> 32))
-}
-
-// Of the fold's upper half the part that comes from the upper half alone.
-fn fold_kept(hi: u64) -> u64
-    ensures { result ≡ kept hi }
-{
-    let up = quotient_high(hi);
-    up ^ (up << 40)
-}
-
-// The part that the shifts by 40 and 96 bring up from the lower half: added to the part above, it
-// makes the fold's upper half.
-fn fold_brought(hi: u64, lo: u64) -> u64
-    ensures { bit_xor (kept hi) result ≡ folded 8 (hi * 2 ^ 64 + lo) / 2 ^ 64 }
-{
-    let low = quotient_low(hi, lo);
-    (low >> 24) ^ (low << 32)
-}
-
-// The lower half of the fold.
-fn fold_low(hi: u64, lo: u64) -> u64
-    ensures { result ≡ folded 8 (hi * 2 ^ 64 + lo) % 2 ^ 64 }
-{
-    let low = quotient_low(hi, lo);
-    low ^ (low << 40)
-}
-
-// One byte as a number.
-fn one(s: &[u8], i: usize) -> u64
-    requires { i < length s.now }
-    ensures { Reads s.now i 1 result }
-{
-    s[i] as u64
-}
-
-// Two bytes as one number, the first higher.
-fn two(s: &[u8], i: usize) -> u64
-    requires { i + 2 ≤ length s.now }
-    ensures { Reads s.now i 2 result }
-{
-    one(s, i) * 256 + one(s, i + 1)
-}
-
-// Eight bytes as one number, the first highest. Of a chain of pairs the compiler makes one load,
-// and of two fours, made of two pairs each, it does not.
+// Eight bytes as one number, the first highest.
 fn eight(s: &[u8], i: usize) -> u64
     requires { i + 8 ≤ length s.now }
     ensures { Reads s.now i 8 result }
 {
-    let four = two(s, i) * 65536 + two(s, i + 2);
-    let six = four * 65536 + two(s, i + 4);
-    six * 65536 + two(s, i + 6)
+    let (eights, _) = s[i..].as_chunks::<8>();
+    u64::from_be_bytes(eights[0])
 }
 
 // What 64 bits, moved up by 16 places, leave: their upper half goes first, then the upper quarter.
+#[tactic(auto, using(crate::proofs::Folds::power_1, crate::proofs::Folds::power_2))]
 fn finish(x: u64) -> u16
     ensures { Same (x * 2 ^ 16) result }
 {
-    let y = fold32((x >> 32) as u32) ^ ((x % 4294967296) as u32);
-    fold16(fold16((y >> 16) as u16) ^ ((y % 65536) as u16))
+    let y = fold::<2>(x >> 32) ^ (x % (1 << 32));
+    let z = fold::<1>(y >> 16) ^ (y % (1 << 16));
+    fold::<1>(z) as u16
 }
 
 // What x and the bytes from i on leave, fewer than eight. One load takes them, with bytes before
-// them that x has already: two shifts move those out. A mask would do the same, but the compiler
-// sees that it never keeps the first byte, and then reads the others one by one.
+// them that x has already.
+#[tactic(auto, using(crate::proofs::Folds::power_4))]
 fn ended(x: u64, s: &[u8], i: usize) -> u16
     requires { (8 ≤ length s.now) × (i ≤ length s.now) × (length s.now < i + 8) }
     ensures { Same (followed x (drop i s.now) * 2 ^ 16) result }
@@ -128,56 +69,53 @@ fn ended(x: u64, s: &[u8], i: usize) -> u16
         return finish(x);
     }
     let bits = 8 * (n - i);
-    let rest = 64 - bits;
-    let last = (eight(s, n - 8) << rest) >> rest;
-    finish((fold64(x >> rest) ^ (x << bits)) ^ last)
+    let last = eight(s, n - 8) % (1 << bits);
+    finish((fold::<4>(x >> (64 - bits)) ^ (x << bits)) ^ last)
 }
 
 // What x and the bytes from the eighth on leave, where there are eight of them or more: sixteen a
 // turn, in a register of 128 bits, and after the last turn eight more if that many are left. The
-// upper half goes from turn to turn in two parts. One of them, `late`, comes out of a turn last,
-// and so only one addition is left that has to wait for it; of one number the compiler makes a
-// chain of them.
+// register goes from turn to turn in two parts. One of them, `late`, comes out of a turn last, and so
+// only one addition is left that has to wait for it; of one number the compiler makes a chain of them.
+#[tactic(auto, using(crate::proofs::Folds::power_4, crate::proofs::Numbers::upper_lt, crate::proofs::Numbers::added_lt))]
 fn wide(x: u64, s: &[u8]) -> u16
     requires { 16 ≤ length s.now }
     ensures { Same (followed x (drop 8 s.now) * 2 ^ 16) result }
 {
-    let end = s.len() - s.len() % 16;
-    let mut early = x;
+    let (turns, rest) = s[16..].as_chunks::<16>();
+    let mut early = ((x as u128) << 64) ^ (eight(s, 8) as u128);
     let mut late = 0;
-    let mut lo = eight(s, 8);
-    let mut i = 16;
-    while i < end {
-        let hi = early ^ late;
-        early = fold_kept(hi) ^ eight(s, i);
-        late = fold_brought(hi, lo);
-        lo = fold_low(hi, lo) ^ eight(s, i + 8);
-        i += 16;
+    for &turn in turns {
+        let q = quotient::<8>(early ^ late);
+        early = (u128::from_be_bytes(turn) ^ q) ^ (q << 96);
+        late = q << 40;
     }
-    let y = fold64(early ^ late) ^ lo;
-    if s.len() - i < 8 {
-        return ended(y, s, i);
+    let y = early ^ late;
+    let z = fold::<4>((y >> 64) as u64) ^ ((y % (1 << 64)) as u64);
+    let i = s.len() - rest.len();
+    if rest.len() < 8 {
+        return ended(z, s, i);
     }
-    ended(fold64(y) ^ eight(s, i), s, i + 8)
+    ended(fold::<4>(z) ^ eight(s, i), s, i + 8)
 }
 
 // The register after one byte: the byte and the register's upper half meet in the eight bits that
 // leave.
+#[tactic(auto, using(crate::proofs::Folds::power_1, crate::proofs::Numbers::byte_folded))]
 fn step_byte(state: u16, b: u8) -> u16
     ensures { result ≡ byte state b }
 {
-    (state << 8) ^ fold16((state >> 8) ^ (b as u16))
+    (state << 8) ^ (fold::<1>(((state >> 8) ^ (b as u16)) as u64) as u16)
 }
 
 // The register after a run of a few bytes, one at a time.
+#[tactic(auto, using(checksum::proofs::Runs::crc_from_next, checksum::proofs::Runs::crc_from_end))]
 fn narrow(state: u16, bytes: &[u8]) -> u16
     ensures { result ≡ crc_from state bytes.now }
 {
     let mut r = state;
-    let mut i = 0;
-    while i < bytes.len() {
-        r = step_byte(r, bytes[i]);
-        i += 1;
+    for &b in bytes {
+        r = step_byte(r, b);
     }
     r
 }
@@ -198,6 +136,7 @@ pub fn sum_on(state: u16, bytes: &[u8]) -> u16
 }
 
 // The sum of a run of bytes.
+#[tactic(auto, unfolding(checksum::specs::Catalogue::crc16))]
 pub fn sum(bytes: &[u8]) -> u16
     ensures { result ≡ crc16 bytes.now }
 {

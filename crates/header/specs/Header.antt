@@ -1,14 +1,13 @@
 -- Document 01, "Bytes on the card": the file header, with document 02's request 10, by which there are two versions.
 -- Assumes nothing.
-use Rattle.std.specs.Prelude.{ℕ, ◌≡◌, List, [], ◌∷◌, ◌++◌, Bool, not, length, replicate, ltb, eqb}
+use Rattle.std.specs.Prelude.{ℕ, ◌≡◌, List, [], ◌∷◌, ◌++◌, Bool, not, length, replicate, ltb, eqb, Result, Ok, Err}
 use Rattle.answers.specs.Numbers.{number_of}
 use Rattle.answers.specs.Answers.{Said, accepted, refused, first_of, unless_refused, afterwards, said_verdict}
 use Rattle.answers.specs.Versions.{is_version}
-use Rattle.answers.specs.declared.Verdict.{Verdict}
+use Rattle.answers.specs.declared.LogFile.{LogFile}
+use Rattle.answers.specs.declared.Refusal.{Refusal}
 use Rattle.fields.specs.Numbers.{field, bytes_of}
 use Rattle.fields.specs.Runs.{over}
-use Rattle.header.specs.declared.HeaderRead.{HeaderRead}
-use Rattle.header.specs.declared.HeaderRead.TheVariants.{Header, Refused}
 
 -- "Signature: the bytes 4C 4F 43 4B 44 41 54 31."
 unfoldable pub signature : List ℕ
@@ -29,15 +28,15 @@ unfoldable pub read_of : List ℕ → Said (ℕ × ℕ)
 read_of s = unless_refused (first_of (read_tests s)) (accepted (field 4 s 8, field 8 s 16))
 
 -- the answer in the paper's words
-abbrev pub said_header : HeaderRead → Said (ℕ × ℕ)
-said_header (Header version ordinal) = accepted (version, ordinal)
-said_header (Refused r) = refused (number_of r) []
+abbrev pub said_header : Result LogFile Refusal → Said (ℕ × ℕ)
+said_header (Ok file) = accepted (file.version, file.ordinal)
+said_header (Err r) = refused (number_of r) []
 
 -- "header writer 1", and 2 after it
 unfoldable pub write_of : List ℕ → (version : ℕ) → Said (Unit {0})
 write_of lent version = unless_refused (first_of ((ltb (length lent) 4096, 1) ∷ (not (is_version version), 2) ∷ [])) (accepted tt)
 
 -- "The writer fills the first 4,096 lent bytes and touches no more."
-pub record Writes (lent : List ℕ) (version ordinal : ℕ) (verdict : Verdict) (after : List ℕ) : Type 0 where
+pub record Writes (lent : List ℕ) (version ordinal : ℕ) (verdict : Result (Unit {0}) Refusal) (after : List ℕ) : Type 0 where
   pub says : said_verdict verdict ≡ write_of lent version
   pub leaves : after ≡ afterwards (write_of lent version) lent (over lent 0 (header_of version ordinal))

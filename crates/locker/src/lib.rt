@@ -6,7 +6,8 @@
 #![tactic(auto)]
 
 ghost use Rattle.std.specs.Prelude.{◌≡◌, true, [], length};
-ghost use Rattle.answers.specs.Answers.{afterwards, number_said, value_out, place_out};
+ghost use Rattle.answers.specs.Numbers.{number_of_stopped};
+ghost use Rattle.answers.specs.Answers.{afterwards, number_said, value_out, place_out, said, refused_by};
 ghost use Rattle.fields.specs.Runs.{over};
 ghost use Rattle.checksum.specs.Catalogue.{crc16, crc_from};
 ghost use Rattle.header.specs.Header.{read_of as header_read, write_of, header_of};
@@ -24,16 +25,12 @@ ghost use Rattle.tracker.specs.Sound.{sound};
 ghost use Rattle.tracker.specs.Least.{least_of};
 ghost use Rattle.told.specs.Told.{FreshOut, ReserveOut, RecordOut, CompleteOut, AbandonOut, CheckpointOut, DrainOut, ClearOut, SlotOut};
 
-use answers::Refusal;
-use append::Appended;
+use answers::{LogFile, Refusal, Stopped};
+use append::Item;
 use entry::Entry;
-use header::HeaderRead;
-use read::Reading;
-use replay::StartAnswer;
-use scan::{Effort, Walked};
-use tail::{DurableEnd, UsedBound};
-use told::{Progress, Reserved};
-use tracker::{Least, Slot, Tracker};
+use scan::Effort;
+use told::{Progress, Stored};
+use tracker::{Least, Reserved, Slot, Tracker};
 
 // The checksum of the bytes.
 #[unsafe(no_mangle)]
@@ -55,17 +52,13 @@ pub extern "C" fn locker_update(state: u16, bytes: &[u8]) -> u16
 pub extern "C" fn locker_read_header(header: &[u8], version: &mut u64, ordinal: &mut u64) -> u32
     ensures { (result ≡ number_said (header_read header.now)) × ((version.new, ordinal.new) ≡ value_out (header_read header.now) (version.old, ordinal.old)) }
 {
-    let answer = header::read_header(header);
-    match answer {
-        HeaderRead::Header {
-            version: v,
-            ordinal: n,
-        } => {
-            *version = v;
-            *ordinal = n;
+    match header::read_header(header) {
+        Ok(file) => {
+            *version = file.version;
+            *ordinal = file.ordinal;
             0
         }
-        HeaderRead::Refused(refusal) => answers::number(refusal),
+        Err(refusal) => refusal.number(),
     }
 }
 
@@ -73,11 +66,23 @@ pub extern "C" fn locker_read_header(header: &[u8], version: &mut u64, ordinal: 
 pub extern "C" fn locker_write_header(lent: &mut [u8], version: u64, ordinal: u64) -> u32
     ensures { (result ≡ number_said (write_of lent.old version)) × (lent.new ≡ afterwards (write_of lent.old version) lent.old (over lent.old 0 (header_of version ordinal))) }
 {
-    let verdict = header::write_header(lent, version, ordinal);
-    answers::verdict_number(verdict)
+    answers::verdict_number(header::write_header(lent, LogFile { version, ordinal }))
 }
 
-// An entry as eight numbers, in the order of its struct.
+// The number of an answer that is a place or a count, which goes to the out parameter.
+fn store(answer: Result<usize, Refusal>, out: &mut u64) -> u32
+    ensures { (result ≡ number_said (said answer)) × (out.new ≡ value_out (said answer) out.old) }
+{
+    match answer {
+        Ok(n) => {
+            *out = n as u64;
+            0
+        }
+        Err(refusal) => refusal.number(),
+    }
+}
+
+// An entry as eight numbers, in the order of its struct: C has it so.
 fn eight(e: Entry) -> [u64; 8]
     ensures { result ≡ eight e }
 {
@@ -101,14 +106,23 @@ pub extern "C" fn locker_read_at(
 ) -> u32
     ensures { (result ≡ number_said (read_in version ordinal region.now p hint)) × (entry.new ≡ entry_out (read_in version ordinal region.now p hint) entry.old) }
 {
-    let answer = read::read_at(region, version, ordinal, p, hint);
-    match answer {
-        Reading::Data(e) => {
+    match read::read_at(region, LogFile { version, ordinal }, p, hint) {
+        Ok(e) => {
             *entry = eight(e);
             0
         }
-        Reading::Refused(refusal) => answers::number(refusal),
+        Err(refusal) => refusal.number(),
     }
+}
+
+// The number of what stopped a walk. The place that goes with 10 goes to its out parameter.
+fn store_stopped(stopped: Stopped, place: &mut u64) -> u32
+    ensures { (result ≡ number_of_stopped stopped) × (place.new ≡ place_out {A = Unit {0}} (refused_by stopped) place.old) }
+{
+    if let Stopped::UnknownAt(p) = stopped {
+        *place = p as u64;
+    }
+    stopped.number()
 }
 
 #[unsafe(no_mangle)]
@@ -125,14 +139,14 @@ pub extern "C" fn locker_append_data(
 ) -> u32
     ensures { AppendOut version ordinal region.old used (data_kind kind) (item kind ns key.now value.now) result region.new next.old next.new }
 {
-    let answer = append::append_data(region, version, ordinal, used, kind, ns, key, value);
-    match answer {
-        Appended::Used(n) => {
-            *next = n as u64;
-            0
-        }
-        Appended::Refused(refusal) => answers::number(refusal),
-    }
+    let asked = Item {
+        kind,
+        ns,
+        key,
+        value,
+    };
+    let answer = append::append_data(region, LogFile { version, ordinal }, used, asked);
+    store(answer, next)
 }
 
 #[unsafe(no_mangle)]
@@ -147,14 +161,8 @@ pub extern "C" fn locker_append_tombstone(
 ) -> u32
     ensures { AppendOut version ordinal region.old used true (item 2 ns key.now []) result region.new next.old next.new }
 {
-    let answer = append::append_tombstone(region, version, ordinal, used, ns, key);
-    match answer {
-        Appended::Used(n) => {
-            *next = n as u64;
-            0
-        }
-        Appended::Refused(refusal) => answers::number(refusal),
-    }
+    let answer = append::append_tombstone(region, LogFile { version, ordinal }, used, ns, key);
+    store(answer, next)
 }
 
 // The next verified entry: `found` is 1 and the entry is told, or `found` is 0 at End.
@@ -171,22 +179,17 @@ pub extern "C" fn locker_walk(
 ) -> u32
     ensures { WalkOut version ordinal region.now bound offset result entry.old entry.new found.old found.new place.old place.new }
 {
-    let answer = scan::walk(region, version, ordinal, bound, offset);
-    match answer {
-        Walked::Found(e) => {
+    match scan::walk(region, LogFile { version, ordinal }, bound, offset) {
+        Ok(Some(e)) => {
             *entry = eight(e);
             *found = 1;
             0
         }
-        Walked::End => {
+        Ok(None) => {
             *found = 0;
             0
         }
-        Walked::Refused(refusal) => answers::number(refusal),
-        Walked::UnknownAt(p) => {
-            *place = p as u64;
-            answers::number(Refusal::UnknownType)
-        }
+        Err(stopped) => store_stopped(stopped, place),
     }
 }
 
@@ -212,17 +215,10 @@ pub extern "C" fn locker_part(
 pub extern "C" fn locker_used_bound(region: &[u8], bound: &mut u64) -> u32
     ensures { (result ≡ number_said (used_of region.now)) × (bound.new ≡ value_out (used_of region.now) bound.old) }
 {
-    let answer = tail::used_bound(region);
-    match answer {
-        UsedBound::Bound(n) => {
-            *bound = n as u64;
-            0
-        }
-        UsedBound::Refused(refusal) => answers::number(refusal),
-    }
+    store(tail::used_bound(region), bound)
 }
 
-// Lines tried and bytes checksummed as two numbers, in the order of their struct.
+// Lines tried and bytes checksummed as two numbers, in the order of their struct: C has it so.
 fn two(effort: Effort) -> [u64; 2]
     ensures { result ≡ two effort }
 {
@@ -241,27 +237,24 @@ pub extern "C" fn locker_durable_end(
 ) -> u32
     ensures { EndOut version ordinal region.now bound result end.old end.new place.old place.new effort.old effort.new }
 {
-    let answer = tail::durable_end(region, version, ordinal, bound);
-    let spent = answer.effort;
-    let told = answer.end;
-    match told {
-        DurableEnd::End(n) => {
+    let counted = tail::durable_end(region, LogFile { version, ordinal }, bound);
+    match counted.end {
+        Ok(n) => {
             *end = n as u64;
-            *effort = two(spent);
+            *effort = two(counted.effort);
             0
         }
-        DurableEnd::Refused(refusal) => answers::number(refusal),
-        DurableEnd::UnknownAt(p) => {
+        Err(Stopped::Refused(refusal)) => refusal.number(),
+        Err(Stopped::UnknownAt(p)) => {
             *place = p as u64;
-            *effort = two(spent);
-            answers::number(Refusal::UnknownType)
+            *effort = two(counted.effort);
+            Refusal::UnknownType.number()
         }
     }
 }
 
 // The entries of each type in each namespace, where the answer is 0: `grid[kind][ns]`.
 #[unsafe(no_mangle)]
-#[tactic(auto, using(crate::proofs::Grids::grid_left))]
 pub extern "C" fn locker_count_entries(
     region: &[u8],
     version: u64,
@@ -271,12 +264,13 @@ pub extern "C" fn locker_count_entries(
 ) -> u32
     ensures { (result ≡ number_said (counts_in version ordinal region.now)) × (grid.new ≡ value_out (counts_in version ordinal region.now) grid.old) × (place.new ≡ place_out (counts_in version ordinal region.now) place.old) }
 {
-    let mut answer = 0;
-    let counted = counts::count_entries(region, version, ordinal, &mut answer, place);
-    if answer == 0 {
-        *grid = counted;
+    match counts::count_entries(region, LogFile { version, ordinal }) {
+        Ok(counted) => {
+            *grid = counted;
+            0
+        }
+        Err(stopped) => store_stopped(stopped, place),
     }
-    answer
 }
 
 // The replay limits of a data entry: 0 where it is accepted.
@@ -284,8 +278,7 @@ pub extern "C" fn locker_count_entries(
 pub extern "C" fn locker_replay_data(klen: usize, vlen: usize, maximum: usize) -> u32
     ensures { result ≡ data_limits klen vlen maximum }
 {
-    let verdict = replay::check_data(klen, vlen, maximum);
-    answers::verdict_number(verdict)
+    answers::verdict_number(replay::check_data(klen, vlen, maximum))
 }
 
 // The replay limits of a tombstone: 0 where it is accepted.
@@ -293,8 +286,7 @@ pub extern "C" fn locker_replay_data(klen: usize, vlen: usize, maximum: usize) -
 pub extern "C" fn locker_replay_tombstone(klen: usize, maximum: usize) -> u32
     ensures { result ≡ tombstone_limits klen maximum }
 {
-    let verdict = replay::check_tombstone(klen, maximum);
-    answers::verdict_number(verdict)
+    answers::verdict_number(replay::check_tombstone(klen, maximum))
 }
 
 // The file at which replay begins: `found` is 1 and the place is told, or `found` is 0 for an empty
@@ -308,18 +300,17 @@ pub extern "C" fn locker_start_file(
 ) -> u32
     ensures { (result ≡ number_said (start_of ordinals.now cursor)) × (place.new ≡ start_out (start_of ordinals.now cursor) place.old) × (found.new ≡ start_found (start_of ordinals.now cursor) found.old) }
 {
-    let answer = replay::start_file(ordinals, cursor);
-    match answer {
-        StartAnswer::File { place: at } => {
+    match replay::start_file(ordinals, cursor) {
+        Ok(Some(at)) => {
             *place = at as u64;
             *found = 1;
             0
         }
-        StartAnswer::Nothing => {
+        Ok(None) => {
             *found = 0;
             0
         }
-        StartAnswer::Refused(refusal) => answers::number(refusal),
+        Err(refusal) => refusal.number(),
     }
 }
 
@@ -328,13 +319,21 @@ pub extern "C" fn locker_start_file(
 // Each call reads the tracker and the out parameter behind their pointers, has `told` work on the
 // values, and stores what it hands back.
 
+// What a call hands back, behind its two pointers.
+fn keep<S: Drop, O: Drop>(told: Stored<S, O>, left: &mut S, out: &mut O) -> u32
+    ensures { (result ≡ told.answer) × (left.new ≡ told.left) × (out.new ≡ told.out) }
+{
+    *left = told.left;
+    *out = told.out;
+    told.answer
+}
+
 #[unsafe(no_mangle)]
 pub extern "C" fn locker_tracker_fresh(t: &mut Tracker) -> u32
     ensures { FreshOut t.new result }
 {
-    let old = *t;
-    let told = told::fresh(old);
-    *t = told.tracker;
+    let told = told::fresh(*t);
+    *t = told.left;
     told.answer
 }
 
@@ -342,8 +341,7 @@ pub extern "C" fn locker_tracker_fresh(t: &mut Tracker) -> u32
 pub extern "C" fn locker_tracker_is_sound(t: &Tracker) -> bool
     ensures { result ≡ sound (view t.now) }
 {
-    let old = *t;
-    tracker::is_sound(old)
+    tracker::is_sound(*t)
 }
 
 #[unsafe(no_mangle)]
@@ -359,12 +357,10 @@ pub extern "C" fn locker_tracker_reserve(
 ) -> u32
     ensures { ReserveOut t.old shard ordinal used capacity sealed length reserved.old t.new reserved.new result }
 {
-    let old = *t;
-    let before = *reserved;
-    let told = told::reserve(old, shard, ordinal, used, capacity, sealed, length, before);
-    *t = told.tracker;
-    *reserved = told.out;
-    told.answer
+    let told = told::reserve(
+        *t, shard, ordinal, used, capacity, sealed, length, *reserved,
+    );
+    keep(told, t, reserved)
 }
 
 #[unsafe(no_mangle)]
@@ -376,12 +372,8 @@ pub extern "C" fn locker_tracker_record(
 ) -> u32
     ensures { RecordOut t.old shard delta number.old t.new number.new result }
 {
-    let old = *t;
-    let before = *number;
-    let told = told::record(old, shard, delta, before);
-    *t = told.tracker;
-    *number = told.out;
-    told.answer
+    let told = told::record(*t, shard, delta, *number);
+    keep(told, t, number)
 }
 
 #[unsafe(no_mangle)]
@@ -394,12 +386,8 @@ pub extern "C" fn locker_tracker_complete(
 ) -> u32
     ensures { CompleteOut t.old shard number delta done.old t.new done.new result }
 {
-    let old = *t;
-    let before = *done;
-    let told = told::complete(old, shard, number, delta, before);
-    *t = told.tracker;
-    *done = told.out;
-    told.answer
+    let told = told::complete(*t, shard, number, delta, *done);
+    keep(told, t, done)
 }
 
 #[unsafe(no_mangle)]
@@ -411,12 +399,8 @@ pub extern "C" fn locker_tracker_abandon(
 ) -> u32
     ensures { AbandonOut t.old shard number done.old t.new done.new result }
 {
-    let old = *t;
-    let before = *done;
-    let told = told::abandon(old, shard, number, before);
-    *t = told.tracker;
-    *done = told.out;
-    told.answer
+    let told = told::abandon(*t, shard, number, *done);
+    keep(told, t, done)
 }
 
 #[unsafe(no_mangle)]
@@ -428,9 +412,7 @@ pub extern "C" fn locker_tracker_checkpoint(
 ) -> u32
     ensures { CheckpointOut t.now ordinal used progress.old progress.new result }
 {
-    let old = *t;
-    let before = *progress;
-    let told = told::checkpoint(old, ordinal, used, before);
+    let told = told::checkpoint(*t, ordinal, used, *progress);
     *progress = told.out;
     told.answer
 }
@@ -439,21 +421,16 @@ pub extern "C" fn locker_tracker_checkpoint(
 pub extern "C" fn locker_tracker_drain(t: &mut Tracker, limit: u64, sum: &mut i64) -> u32
     ensures { DrainOut t.old limit sum.old t.new sum.new result }
 {
-    let old = *t;
-    let before = *sum;
-    let told = told::drain(old, limit, before);
-    *t = told.tracker;
-    *sum = told.out;
-    told.answer
+    let told = told::drain(*t, limit, *sum);
+    keep(told, t, sum)
 }
 
 #[unsafe(no_mangle)]
 pub extern "C" fn locker_tracker_clear(t: &mut Tracker) -> u32
     ensures { ClearOut t.old t.new result }
 {
-    let old = *t;
-    let told = told::clear(old);
-    *t = told.tracker;
+    let told = told::clear(*t);
+    *t = told.left;
     told.answer
 }
 
@@ -462,12 +439,8 @@ pub extern "C" fn locker_tracker_clear(t: &mut Tracker) -> u32
 pub extern "C" fn locker_slot_abandon(slot: &mut Slot, number: u64, done: &mut u64) -> u32
     ensures { SlotOut slot.old number slot.new done.new result }
 {
-    let old = *slot;
-    let before = *done;
-    let told = told::abandon_slot(old, number, before);
-    *slot = told.slot;
-    *done = told.out;
-    told.answer
+    let told = told::abandon_slot(*slot, number, *done);
+    keep(told, slot, done)
 }
 
 // A run of slots of any length, as document 01 has it lent: the least place and the least open

@@ -18,7 +18,8 @@ use Rattle.entry.specs.Words.{word_mark, word_kind}
 use Rattle.entry.specs.Layout.{entry_at, sum_place}
 use Rattle.entry.specs.declared.Entry.{Entry}
 use Rattle.entry.proofs.Standing.{Verified, entry_kind, entry_sum, data_entry, data_sum, agreed, agreeing}
-use Rattle.read.specs.Reading.{view_of, view_sum, parse_tests, parse_of, Fields, fields_of, at, read_of}
+use Rattle.read.specs.Reading.{view_of, view_sum, parse_tests, parse_of, fields_of, at, read_of}
+use Rattle.read.specs.declared.Fields.{Fields}
 use Rattle.read.proofs.Parsing.{Parses, parses, parsing}
 use Rattle.read.proofs.Views.{view_length, view_field, view_front}
 

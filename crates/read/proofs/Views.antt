@@ -10,7 +10,8 @@ use Rattle.answers.specs.Answers.{accepted, first_of}
 use Rattle.answers.proofs.Orders.{accepted_unrefused}
 use Rattle.fields.specs.Numbers.{field}
 use Rattle.fields.proofs.Widths.{field_same}
-use Rattle.read.specs.Reading.{view_of, parse_tests, parse_of, Fields, fields_of}
+use Rattle.read.specs.Reading.{view_of, parse_tests, parse_of, fields_of}
+use Rattle.read.specs.declared.Fields.{Fields}
 use Rattle.read.proofs.Parsing.{parses}
 
 module _ (region : List ℕ) (p hint : ℕ) where

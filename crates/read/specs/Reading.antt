@@ -1,7 +1,6 @@
 -- Document 01, "Read at a place", with document 02's request 4, over any mark rule, and for a file of either version (request 10).
 -- Assumes nothing.
 use Rattle.std.specs.Prelude.{ℕ, ◌+◌, ◌-◌, ◌%◌, min, List, [], ◌∷◌, Bool, not, length, take, drop, ltb, eqb}
-use Rattle.answers.specs.Numbers.{number_of}
 use Rattle.answers.specs.Answers.{Said, accepted, refused, first_of, unless_refused}
 use Rattle.answers.specs.Limits.{largest_region}
 use Rattle.answers.specs.Versions.{version_refusal}
@@ -9,10 +8,7 @@ use Rattle.fields.specs.Numbers.{field}
 use Rattle.entry.specs.Words.{mark_of, word_mark, word_namespace, word_kind}
 use Rattle.entry.specs.Layout.{placed, agrees}
 use Rattle.entry.specs.declared.Entry.{Entry}
-use Rattle.read.specs.declared.Parsed.{Parsed}
-use Rattle.read.specs.declared.Parsed.TheVariants as parsed
-use Rattle.read.specs.declared.Reading.{Reading}
-use Rattle.read.specs.declared.Reading.TheVariants as reading
+use Rattle.read.specs.declared.Fields.{Fields}
 
 -- "the reader looks at min(hint, N - p) bytes starting at p inside the region, or none if p is past N."
 unfoldable pub view_of : List ℕ → ℕ → ℕ → List ℕ
@@ -38,24 +34,13 @@ parse_tests mark view =
     ∷ (ltb 1 (word_kind (field 4 view 0)), 9)
     ∷ []
 
--- the fields of an entry that begins with the view's first byte, whatever its place
-pub record Fields : Type 0 where
-  pub kind : ℕ
-  pub ns : ℕ
-  pub klen : ℕ
-  pub vlen : ℕ
-
--- Document 02, request 4: "The read at a place shall report Insert or Update as the word says." Document 01's line, by which an update was told
+-- the fields of an entry that begins with the view's first byte, whatever its place. Document 02, request 4: "The read at a place shall report Insert or Update as the word says." Document 01's line, by which an update was told
 -- as an insert, is withdrawn
 abbrev pub fields_of : List ℕ → Fields
 fields_of view = record { kind = word_kind (field 4 view 0); ns = word_namespace (field 4 view 0); klen = view_klen view; vlen = view_vlen view }
 
 unfoldable pub parse_of : ℕ → List ℕ → Said Fields
 parse_of mark view = unless_refused (first_of (parse_tests mark view)) (accepted (fields_of view))
-
-abbrev pub said_parsed : Parsed → Said Fields
-said_parsed (parsed.Data kind ns klen vlen) = accepted (record { kind = kind; ns = ns; klen = klen; vlen = vlen })
-said_parsed (parsed.Refused r) = refused (number_of r) []
 
 -- the entry at p with these fields
 abbrev pub at : ℕ → Said Fields → Said Entry
@@ -71,8 +56,3 @@ read_of mark region p hint =
 -- "every call that needs a mark takes both", version and ordinal, and 2 comes "before all others"
 abbrev pub read_in : (version ordinal : ℕ) → List ℕ → ℕ → ℕ → Said Entry
 read_in version ordinal region p hint = unless_refused (version_refusal version) (read_of (mark_of version ordinal) region p hint)
-
--- the answer in the paper's words
-abbrev pub said : Reading → Said Entry
-said (reading.Data e) = accepted e
-said (reading.Refused r) = refused (number_of r) []

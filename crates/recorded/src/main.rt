@@ -5,222 +5,196 @@
 #![tactic(auto)]
 
 mod calls;
-mod cursor;
 mod judge;
+mod operation;
+mod reader;
 mod said;
-mod trackers;
+mod states;
 
-use cursor::Cursor;
-use judge::Record;
-use std::io;
+use judge::Judge;
+use operation::{OPERATIONS, Operation};
+use reader::{Fault, Malformed, Reader};
+use std::{fmt, io};
 use tracker::Tracker;
 
 // The recorded file has to stay below this.
 const LARGEST_FILE: usize = 360000;
 
-// The bytes of LOCKREC1, the first lowest.
-const SIGNATURE: u64 = 0x3143_4552_4B43_4F4C;
+// What ends a replay early: a fault in the file, or a line that can't be written.
+#[derive(Drop)]
+pub enum Failure {
+    Malformed(Malformed),
+    Output(io::Error),
+}
 
-const LAST_OPERATION: u64 = 22;
-
-// How many records of each operation were replayed, and behind them how many agreed. Those of all
-// operations stand where an operation 0 would.
-type Tally = [u64; 46];
-
-fn counted(before: Tally, operation: u64, agreed: bool) -> Tally {
-    let mut tally = before;
-    let i = operation as usize;
-    if 23 <= i {
-        return tally;
+impl From<Malformed> for Failure {
+    fn from(malformed: Malformed) -> Failure {
+        Failure::Malformed(malformed)
     }
-    tally[i] = std::num::wrapping_add_u64(tally[i], 1);
-    tally[i + 23] = std::num::wrapping_add_u64(tally[i + 23], agreed as u64);
-    tally
+}
+
+impl From<io::Error> for Failure {
+    fn from(error: io::Error) -> Failure {
+        Failure::Output(error)
+    }
 }
 
 // ---- the records
 
-// How far the replay is.
-#[derive(Drop)]
-struct Progress {
-    cursor: Cursor,
-    tracker: Tracker,
-    tally: Tally,
+// How many records were replayed, and how many of them agreed.
+#[derive(Clone, Copy)]
+struct Tally {
+    replayed: u64,
+    agreed: u64,
 }
 
-fn reached(c: Cursor, state: Tracker, tally: Tally) -> Progress {
-    Progress {
-        cursor: c,
-        tracker: state,
-        tally: tally,
+impl Tally {
+    const NONE: Tally = Tally {
+        replayed: 0,
+        agreed: 0,
+    };
+
+    fn count(&mut self, agreed: bool) {
+        self.replayed = self.replayed.saturating_add(1);
+        self.agreed = self.agreed.saturating_add(u64::from(agreed));
     }
 }
 
-// A record that can't be read counts nowhere.
-fn gone_on(next: Cursor, state: Tracker, tally: Tally, operation: u64, agreed: bool) -> Progress {
-    if next.fault != cursor::NO_FAULT {
-        return reached(next, state, tally);
+impl fmt::Display for Tally {
+    fn fmt<W: fmt::Write>(&self, f: &mut fmt::Formatter<W>) -> fmt::Result {
+        let replayed = self.replayed;
+        let agreed = self.agreed;
+        write!(f, "{replayed} {agreed}")
     }
-    reached(
-        next,
-        state,
-        counted(counted(tally, operation, agreed), 0, agreed),
-    )
 }
 
-// The cursor behind the operation's byte.
-fn past_operation(file: &[u8], c: Cursor, operation: u64) -> Cursor {
-    let next = cursor::passed(file, c, 1);
-    if next.fault != cursor::NO_FAULT {
-        return next;
+// The tally of each operation, in the order of OPERATIONS, and of all. A record that can't be read
+// counts nowhere.
+#[derive(Clone, Copy)]
+struct Tallies {
+    each: [Tally; 22],
+    all: Tally,
+}
+
+impl Tallies {
+    fn count(&mut self, operation: Operation, agreed: bool) {
+        for (other, tally) in OPERATIONS.iter().zip(self.each.iter_mut()) {
+            if *other == operation {
+                tally.count(agreed);
+            }
+        }
+        self.all.count(agreed);
     }
-    if operation == 0 {
-        return cursor::standing(c.at, cursor::ENDS_EARLY);
-    }
-    if LAST_OPERATION < operation {
-        return cursor::standing(c.at, cursor::UNKNOWN_OPERATION);
-    }
-    next
 }
 
 fn replay_record(
-    rt: &impl Print,
-    file: &[u8],
-    index: usize,
-    before: Progress,
-) -> io::Result<Progress> {
-    let c = before.cursor;
-    let state = before.tracker;
-    let tally = before.tally;
-    let operation = cursor::byte(file, c.at);
-    let start = past_operation(file, c, operation);
-    if start.fault != cursor::NO_FAULT {
-        return Ok(reached(start, state, tally));
+    rt: &HostRuntime,
+    file: &mut Reader<'_>,
+    index: u32,
+    state: &mut Tracker,
+    tallies: &mut Tallies,
+) -> Result<(), Failure> {
+    let start = file.place();
+    let [number] = file.array::<1>()?;
+    let operation = Operation::try_from(number).map_err(|fault| fault.at(start))?;
+    let mut judge = Judge::new(rt, index, operation);
+    match operation {
+        Operation::StateSet => {
+            // The original's states are sound.
+            *state = states::read(file)?;
+            judge.hold("soundness", 1, u64::from(tracker::is_sound(*state)))?;
+        }
+        Operation::StateCheck => {
+            let expected = states::read(file)?;
+            states::hold(&mut judge, &expected, state)?;
+        }
+        Operation::Call(call) => calls::replay(&mut judge, file, call, state)?,
     }
-    let record = Record {
-        index: index,
-        operation: operation,
-    };
-    if 10 <= operation && operation <= 18 {
-        let after = trackers::replay(rt, file, start, record, state)?;
-        return Ok(gone_on(after.next, after.tracker, tally, operation, after.agreed));
-    }
-    let replayed = calls::replay(rt, file, start, record)?;
-    Ok(gone_on(replayed.next, state, tally, operation, replayed.agreed))
+    tallies.count(operation, judge.agreed);
+    Ok(())
 }
 
 fn replay_records(
-    rt: &impl Print,
-    file: &[u8],
-    count: usize,
-    start: Cursor,
-) -> io::Result<Progress> {
-    let mut progress = reached(start, tracker::fresh(), [0; 46]);
-    let mut index = 0;
-    while index < count {
-        progress = replay_record(rt, file, index, progress)?;
-        let c = progress.cursor;
-        if c.fault != cursor::NO_FAULT {
-            return Ok(progress);
-        }
-        index += 1;
+    rt: &HostRuntime,
+    file: &mut Reader<'_>,
+    count: u32,
+    tallies: &mut Tallies,
+) -> Result<(), Failure> {
+    let mut state = tracker::fresh();
+    for index in 0..count {
+        replay_record(rt, file, index, &mut state, tallies)?;
     }
-    Ok(progress)
+    Ok(())
 }
 
 // ---- what is written
 
-fn write_line(rt: &impl Print, operation: u64, replayed: u64, agreed: u64) -> io::Result<()> {
-    judge::write_name(rt, operation)?;
-    judge::number(rt, b" ", replayed)?;
-    judge::number(rt, b" ", agreed)?;
-    judge::write(rt, b"\n")
-}
-
-fn write_table(rt: &impl Print, tally: Tally) -> io::Result<()> {
-    let mut i: usize = 1;
-    while i < 23 {
-        write_line(rt, i as u64, tally[i], tally[i + 23])?;
-        i += 1;
+fn write_table(rt: &HostRuntime, tallies: &Tallies) -> io::Result<()> {
+    for (operation, tally) in OPERATIONS.iter().zip(tallies.each.iter()) {
+        println!(rt; "{operation:16} {tally}")?;
     }
-    write_line(rt, 0, tally[0], tally[23])
+    let all = tallies.all;
+    println!(rt; "{:16} {all}", "all")
 }
 
 // The last line where the file isn't what it should be. Records are counted from 0.
-fn write_malformed(rt: &impl Print, record: u64, c: Cursor) -> io::Result<()> {
-    let faults = b"nothing                              \
-        the file has 360,000 bytes or more   \
-        the file doesn't begin with LOCKREC1 \
-        the file ends within this part       \
-        the end mark comes before all records\
-        the operation is unknown             \
-        a run has more than 70,000 bytes     \
-        a piece lies outside its run         \
-        an ordinal has fewer than 8 bytes    \
-        a delta is out of range              \
-        a shard is out of range              \
-        more than 32 deltas wait on a shard  \
-        the end mark is missing              \
-        bytes follow the end mark            \
-        a grid hasn't 768 bytes              ";
-    judge::number(rt, b"malformed: record ", record)?;
-    judge::number(rt, b", byte ", c.at as u64)?;
-    judge::write(rt, b": ")?;
-    let fault = c.fault;
-    if fault < 15 {
-        rt.write_all(cursor::part(faults, fault as usize * 37, 37))?;
-    }
-    judge::write(rt, b"\n")
+fn write_malformed(rt: &HostRuntime, record: u64, malformed: Malformed) -> io::Result<()> {
+    println!(rt; "malformed: record {record}, {malformed}")
 }
 
-fn write_verdict(rt: &impl Print, replayed: u64, agreed: u64) -> io::Result<()> {
-    if replayed == agreed {
-        return judge::write(rt, b"every recorded answer is given\n");
+fn write_verdict(rt: &HostRuntime, all: Tally) -> io::Result<()> {
+    if all.replayed == all.agreed {
+        println!(rt; "every recorded answer is given")
+    } else {
+        println!(rt; "NOT every recorded answer is given")
     }
-    judge::write(rt, b"NOT every recorded answer is given\n")
 }
 
 // ---- the file
 
-// The cursor behind the signature and the count.
-fn past_head(file: &[u8]) -> Cursor {
-    let end = cursor::passed(file, cursor::standing(0, cursor::NO_FAULT), 12);
-    if end.fault != cursor::NO_FAULT {
-        return end;
+// The signature, and how many records there are.
+fn read_head(file: &mut Reader<'_>) -> Result<u32, Malformed> {
+    let start = file.place();
+    let head = file.array::<12>()?;
+    if !head.starts_with(b"LOCKREC1") {
+        return Err(Fault::WrongSignature.at(start));
     }
-    if cursor::number64(file, 0) != SIGNATURE {
-        return cursor::standing(0, cursor::WRONG_SIGNATURE);
-    }
-    end
+    let [.., a, b, c, d] = head;
+    Ok(u32::from_le_bytes([a, b, c, d]))
 }
 
-fn past_end_mark(file: &[u8], c: Cursor) -> Cursor {
-    let end = cursor::passed(file, c, 1);
-    if end.fault != cursor::NO_FAULT {
-        return end;
+fn read_end(file: &mut Reader<'_>) -> Result<(), Malformed> {
+    let start = file.place();
+    let [mark] = file.array::<1>()?;
+    if mark != 0 {
+        return Err(Fault::NoEndMark.at(start));
     }
-    if cursor::byte(file, c.at) != 0 {
-        return cursor::standing(c.at, cursor::NO_END_MARK);
+    if !file.is_at_end() {
+        return Err(Fault::BytesAfterEnd.at(file.place()));
     }
-    if end.at < file.len() {
-        return cursor::standing(end.at, cursor::BYTES_AFTER_END);
-    }
-    end
+    Ok(())
 }
 
-fn replay_file(rt: &impl Print, file: &[u8]) -> io::Result<()> {
-    let head = past_head(file);
-    if head.fault != cursor::NO_FAULT {
-        return write_malformed(rt, 0, head);
+fn replay_file(rt: &HostRuntime, bytes: &[u8]) -> io::Result<()> {
+    let mut file = Reader::new(bytes);
+    let count = match read_head(&mut file) {
+        Ok(count) => count,
+        Err(malformed) => return write_malformed(rt, 0, malformed),
+    };
+    let mut tallies = Tallies {
+        each: [Tally::NONE; 22],
+        all: Tally::NONE,
+    };
+    let end = match replay_records(rt, &mut file, count, &mut tallies) {
+        Ok(()) => read_end(&mut file),
+        Err(Failure::Malformed(malformed)) => Err(malformed),
+        Err(Failure::Output(error)) => return Err(error),
+    };
+    write_table(rt, &tallies)?;
+    match end {
+        Ok(()) => write_verdict(rt, tallies.all),
+        Err(malformed) => write_malformed(rt, tallies.all.replayed, malformed),
     }
-    let progress = replay_records(rt, file, cursor::number32(file, 8), head)?;
-    let tally = progress.tally;
-    write_table(rt, tally)?;
-    let end = past_end_mark(file, progress.cursor);
-    if end.fault != cursor::NO_FAULT {
-        return write_malformed(rt, tally[0], end);
-    }
-    write_verdict(rt, tally[0], tally[23])
 }
 
 // A file that fills the room may go on, so it isn't replayed. One that can't be read to its end is
@@ -228,11 +202,12 @@ fn replay_file(rt: &impl Print, file: &[u8]) -> io::Result<()> {
 fn replay_input(rt: &HostRuntime, room: &mut [u8]) -> io::Result<()> {
     let n = card::read_full(&mut rt.stdin(), room);
     if n == room.len() {
-        return write_malformed(rt, 0, cursor::standing(n, cursor::FILE_TOO_LONG));
+        return write_malformed(rt, 0, Fault::FileTooLong.at(n));
     }
-    replay_file(rt, cursor::part(room, 0, n))
+    replay_file(rt, &room[..n])
 }
 
+// Nothing here allocates, so the room is an array.
 fn main(rt: HostRuntime) -> io::Result<()> {
     let mut room = [0u8; LARGEST_FILE];
     replay_input(&rt, &mut room)

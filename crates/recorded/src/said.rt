@@ -1,142 +1,184 @@
-// An answer as it is recorded: document 01's number, and the values.
-use answers::{Refusal, Verdict};
-use append::Appended;
+// An answer as it is recorded: document 01's number, 0 where it is accepted, and the values. With
+// some refusals values go too.
+use answers::{LogFile, Refusal, Stopped};
 use entry::Entry;
-use header::HeaderRead;
-use read::Reading;
-use replay::StartAnswer;
-use scan::{Effort, Walked};
-use tail::{CountedEnd, DurableEnd, UsedBound};
+use tail::CountedEnd;
+use tracker::{Finish, Progress, Reserved};
 
+// The most values that an answer has.
+const MOST_VALUES: usize = 9;
+
+// Nothing here allocates, so the values stand in a room of a fixed size, with their count beside it.
 #[derive(Clone, Copy)]
 pub struct Said {
-    pub number: u64,
-    pub count: usize,
-    pub values: [u64; 9],
+    pub refusal: Option<Refusal>,
+    room: [u64; MOST_VALUES],
+    count: usize,
 }
 
-pub fn accepted() -> Said {
-    Said {
-        number: 0,
-        count: 0,
-        values: [0; 9],
+impl Said {
+    pub fn accepted(values: &[u64]) -> Said {
+        let said = Said {
+            refusal: None,
+            room: [0; MOST_VALUES],
+            count: 0,
+        };
+        said.with(values)
+    }
+
+    // The same answer with more values behind its own.
+    fn with(self, more: &[u64]) -> Said {
+        let mut said = self;
+        for (free, value) in said.room.iter_mut().skip(self.count).zip(more) {
+            *free = *value;
+        }
+        said.count = self.count.saturating_add(more.len()).min(MOST_VALUES);
+        said
+    }
+
+    pub fn number(self) -> u32 {
+        match self.refusal {
+            Some(refusal) => refusal.number(),
+            None => 0,
+        }
+    }
+
+    pub fn values(&self) -> &[u64] {
+        &self.room[..self.count.min(MOST_VALUES)]
     }
 }
 
-pub fn refused(refusal: Refusal) -> Said {
-    let mut said = accepted();
-    said.number = answers::number(refusal) as u64;
-    said
-}
+// ---- what an accepted answer has
 
-// The same answer with one value more.
-pub fn with(before: Said, value: u64) -> Said {
-    let mut said = before;
-    let count = said.count;
-    if count < 9 {
-        said.values[count] = value;
-        said.count = count + 1;
-    }
-    said
-}
-
-pub fn value_of(said: Said, index: usize) -> u64 {
-    if index < 9 {
-        return said.values[index];
-    }
-    0
-}
-
-pub fn one(value: u64) -> Said {
-    with(accepted(), value)
-}
-
-fn with_entry(before: Said, e: Entry) -> Said {
-    let mut said = with(before, e.offset as u64);
-    said = with(said, e.kind);
-    said = with(said, e.ns);
-    said = with(said, e.klen as u64);
-    said = with(said, e.vlen as u64);
-    said = with(said, e.vplace as u64);
-    said = with(said, e.kplace as u64);
-    with(said, e.end as u64)
-}
-
-pub fn verdict(answer: Verdict) -> Said {
-    match answer {
-        Verdict::Accepted => accepted(),
-        Verdict::Refused(refusal) => refused(refusal),
+impl From<()> for Said {
+    fn from(_accepted: ()) -> Said {
+        Said::accepted(&[])
     }
 }
 
-pub fn header(answer: HeaderRead) -> Said {
-    match answer {
-        HeaderRead::Header { version, ordinal } => with(one(version), ordinal),
-        HeaderRead::Refused(refusal) => refused(refusal),
+impl From<u16> for Said {
+    fn from(checksum: u16) -> Said {
+        Said::accepted(&[u64::from(checksum)])
     }
 }
 
-pub fn reading(answer: Reading) -> Said {
-    match answer {
-        Reading::Data(e) => with_entry(accepted(), e),
-        Reading::Refused(refusal) => refused(refusal),
+impl From<u64> for Said {
+    fn from(number: u64) -> Said {
+        Said::accepted(&[number])
     }
 }
 
-pub fn appended(answer: Appended) -> Said {
-    match answer {
-        Appended::Used(used) => one(used as u64),
-        Appended::Refused(refusal) => refused(refusal),
+impl From<usize> for Said {
+    fn from(place: usize) -> Said {
+        Said::accepted(&[place as u64])
     }
 }
 
-pub fn walked(answer: Walked) -> Said {
-    match answer {
-        Walked::Found(e) => with_entry(one(1), e),
-        Walked::End => one(0),
-        Walked::Refused(refusal) => refused(refusal),
-        Walked::UnknownAt(place) => with(refused(Refusal::UnknownType), place as u64),
+// A sum in two's complement.
+impl From<i64> for Said {
+    fn from(sum: i64) -> Said {
+        Said::accepted(&[sum.cast_unsigned()])
     }
 }
 
-pub fn used_bound(answer: UsedBound) -> Said {
-    match answer {
-        UsedBound::Bound(bound) => one(bound as u64),
-        UsedBound::Refused(refusal) => refused(refusal),
+impl From<LogFile> for Said {
+    fn from(file: LogFile) -> Said {
+        Said::accepted(&[file.version, file.ordinal])
     }
 }
 
-// Lines tried and bytes checksummed, behind the end or the place.
-fn with_effort(before: Said, effort: Effort) -> Said {
-    with(with(before, effort.lines as u64), effort.bytes as u64)
+impl From<Entry> for Said {
+    fn from(e: Entry) -> Said {
+        Said::accepted(&[
+            e.offset as u64,
+            e.kind,
+            e.ns,
+            e.klen as u64,
+            e.vlen as u64,
+            e.vplace as u64,
+            e.kplace as u64,
+            e.end as u64,
+        ])
+    }
 }
 
-pub fn durable_end(answer: CountedEnd) -> Said {
-    let effort = answer.effort;
-    let end = answer.end;
-    match end {
-        DurableEnd::End(n) => with_effort(one(n as u64), effort),
-        DurableEnd::Refused(refusal) => refused(refusal),
-        DurableEnd::UnknownAt(place) => {
-            with_effort(with(refused(Refusal::UnknownType), place as u64), effort)
+impl From<Reserved> for Said {
+    fn from(reserved: Reserved) -> Said {
+        Said::accepted(&[reserved.number, reserved.place])
+    }
+}
+
+impl From<Finish> for Said {
+    fn from(finish: Finish) -> Said {
+        match finish {
+            Finish::Done => Said::accepted(&[1]),
+            Finish::Stale => Said::accepted(&[0]),
         }
     }
 }
 
-// A count's number, and with 10 its place. The grid goes where one is lent.
-pub fn counted(answer: u32, place: u64) -> Said {
-    let mut said = accepted();
-    said.number = answer as u64;
-    if answer == answers::number(Refusal::UnknownType) {
-        return with(said, place);
+impl From<Progress> for Said {
+    fn from(p: Progress) -> Said {
+        Said::accepted(&[
+            p.ordinal,
+            p.offset,
+            p.sum.cast_unsigned(),
+            p.limit,
+            u64::from(p.pending),
+        ])
     }
-    said
 }
 
-pub fn start(answer: StartAnswer) -> Said {
-    match answer {
-        StartAnswer::File { place } => with(one(1), place as u64),
-        StartAnswer::Nothing => one(0),
-        StartAnswer::Refused(refusal) => refused(refusal),
+// 1 and what there is, or 0.
+impl<A: Into<Said>> From<Option<A>> for Said {
+    fn from(found: Option<A>) -> Said {
+        match found {
+            Some(it) => {
+                let said: Said = it.into();
+                Said::accepted(&[1]).with(said.values())
+            }
+            None => Said::accepted(&[0]),
+        }
+    }
+}
+
+// ---- refusals, and answers that may be one
+
+impl From<Refusal> for Said {
+    fn from(refusal: Refusal) -> Said {
+        let mut said = Said::accepted(&[]);
+        said.refusal = Some(refusal);
+        said
+    }
+}
+
+impl From<Stopped> for Said {
+    fn from(stopped: Stopped) -> Said {
+        match stopped {
+            Stopped::Refused(refusal) => Said::from(refusal),
+            Stopped::UnknownAt(place) => { Said::from(Refusal::UnknownType).with(&[place as u64]) }
+        }
+    }
+}
+
+impl<A: Into<Said>, E: Into<Said>> From<Result<A, E>> for Said {
+    fn from(answer: Result<A, E>) -> Said {
+        match answer {
+            Ok(accepted) => accepted.into(),
+            Err(refused) => refused.into(),
+        }
+    }
+}
+
+// Lines tried and bytes checksummed, behind the end or the place of 10. The other refusals come before
+// any line is tried.
+impl From<CountedEnd> for Said {
+    fn from(counted: CountedEnd) -> Said {
+        let effort = counted.effort;
+        let said = Said::from(counted.end);
+        match counted.end {
+            Err(Stopped::Refused(_)) => said,
+            _ => said.with(&[effort.lines as u64, effort.bytes as u64]),
+        }
     }
 }

@@ -1,3 +1,4 @@
+pub mod Tombstones
 pub mod Listings
 pub mod Choices
 pub mod Starts

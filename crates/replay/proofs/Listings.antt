@@ -1,32 +1,20 @@
 -- What the tests of a list say: that an ordinal stands in it, and that two of its ordinals are equal. Neither looks at the list's order.
 -- Assumes nothing.
-use Prim.Native.Nat.{ℕ, zero, suc, ◌+◌, ◌<◌, ◌≤◌}
+use Prim.Native.Nat.{ℕ, zero, suc, ◌<◌}
 use mathlib.Core.Path.{◌≡◌, refl, sym, ap, ap₂, ◌∙◌}
 use mathlib.Core.Bool.{Bool, true, false, cond, ◌||◌, true≢false, false≢true}
 use mathlib.Core.Logic.{◌⊎◌, inl, inr}
 use mathlib.Core.List.{List, [], ◌∷◌, Permᴰ}
-use native.Mathlib.Numerals.{add-one}
 use native.Mathlib.Omega.{arith}
 use lib.Dec.{eqb}
-use lib.ListN.{length, get_or, drop, drop_of_length-le}
-use lib.Seq.{drop-cons}
+use lib.ListN.{length, get_or}
 use borrow.Author.Tests.{eqb-true, eqb-false, eq-eqb, ne_eqb}
+use Rattle.std.proofs.lemmas.Bool.{or_cases, or_parts, or_right}
+use Rattle.std.specs.List.{list_any}
 use Rattle.replay.specs.Start.{listed, twins, place_of}
 use Rattle.replay.specs.Choice.{Ascending}
 
 -- ---- one test or another
-
-or_right : (a b : Bool) → b ≡ true → (a || b) ≡ true
-or_right true b e = refl
-or_right false b e = e
-
-or_either : (a b : Bool) → (a || b) ≡ true → (a ≡ true) ⊎ (b ≡ true)
-or_either true b e = inl refl
-or_either false b e = inr e
-
-or_neither : (a b : Bool) → (a || b) ≡ false → (a ≡ false) × (b ≡ false)
-or_neither true b e = absurd (true≢false e)
-or_neither false b e = (refl, e)
 
 or_swap : (a b c : Bool) → (a || (b || c)) ≡ (b || (a || c))
 or_swap true true c = refl
@@ -42,7 +30,7 @@ pub listed_later : (q o : ℕ) (os : List ℕ) → listed q os ≡ true → list
 listed_later q o os e = or_right (eqb q o) (listed q os) e
 
 pub listed_either : (q o : ℕ) (os : List ℕ) → listed q (o ∷ os) ≡ true → (q ≡ o) ⊎ (listed q os ≡ true)
-listed_either q o os e = by (or_either (eqb q o) (listed q os) e)
+listed_either q o os e = by (or_cases (eqb q o) (listed q os) e)
   where
     by : (eqb q o ≡ true) ⊎ (listed q os ≡ true) → (q ≡ o) ⊎ (listed q os ≡ true)
     by (inl t) = inl (eqb-true q o t)
@@ -77,7 +65,7 @@ pub place_back : (os : List ℕ) → twins os ≡ false → (i : ℕ) → i < le
 place_back [] e i h = absurd (omega arith)
 place_back (o ∷ os) e zero h = rw (eq-eqb o o refl) refl
 place_back (o ∷ os) e (suc i) h =
-    let apart = or_neither (listed o os) (twins os) e in
+    let apart = or_parts (listed o os) (twins os) e in
     let other : get_or os i 0 ≡ o → ⊥ = λ same. true≢false (sym (listed_at os i (omega arith)) ∙ ap (λ (q : ℕ). listed q os) same ∙ apart.0) in
     rw (ne_eqb (get_or os i 0) o other) (ap suc (place_back os apart.1 i (omega arith)))
 
@@ -99,31 +87,7 @@ no_twins (o ∷ os) h =
 pub ascending_apart : (os : List ℕ) → Ascending os → twins os ≡ false
 ascending_apart os up = no_twins os (λ i j lt hj same. let below = up i j lt hj in omega (arith, below, same))
 
--- ---- the searches: what is left of the list decides
-
-module _ (os : List ℕ) (i : ℕ) (h : i < length os) where
-  cons_at : drop i os ≡ get_or os i 0 ∷ drop (i + 1) os
-  cons_at = drop-cons os i 0 h ∙ ap (λ (k : ℕ). get_or os i 0 ∷ drop k os) (sym (add-one i))
-
-  pub listed_found : (q : ℕ) → q ≡ get_or os i 0 → listed q (drop i os) ≡ true
-  listed_found q e = ap (listed q) cons_at ∙ rw (eq-eqb q (get_or os i 0) e) refl
-
-  pub listed_passed : (q : ℕ) → (q ≡ get_or os i 0 → ⊥) → listed q (drop i os) ≡ listed q (drop (i + 1) os)
-  listed_passed q e = ap (listed q) cons_at ∙ rw (ne_eqb q (get_or os i 0) e) refl
-
-  pub twins_found : listed (get_or os i 0) (drop (i + 1) os) ≡ true → twins (drop i os) ≡ true
-  twins_found e = ap twins cons_at ∙ rw e refl
-
-  pub twins_passed : listed (get_or os i 0) (drop (i + 1) os) ≡ false → twins (drop i os) ≡ twins (drop (i + 1) os)
-  twins_passed e = ap twins cons_at ∙ rw e refl
-
-pub listed_over : (os : List ℕ) (q i : ℕ) → length os ≤ i → listed q (drop i os) ≡ false
-listed_over os q i h = ap (listed q) (drop_of_length-le os h)
-
-pub twins_over : (os : List ℕ) (i : ℕ) → length os ≤ i → twins (drop i os) ≡ false
-twins_over os i h = ap twins (drop_of_length-le os h)
-
--- ---- any order of the list
+-- ---- the search for twins
 
 eqb_turned : (a b : ℕ) → eqb a b ≡ eqb b a
 eqb_turned a b = by (eqb a b) refl
@@ -131,6 +95,21 @@ eqb_turned a b = by (eqb a b) refl
     by : (t : Bool) → eqb a b ≡ t → t ≡ eqb b a
     by true t = sym (eq-eqb b a (sym (eqb-true a b t)))
     by false t = sym (ne_eqb b a (λ same. eqb-false a b t (sym same)))
+
+-- the library's test whether a list contains an ordinal
+listed_any : (o : ℕ) (os : List ℕ) → list_any (λ q. eqb q o) os ≡ listed o os
+listed_any o [] = refl
+listed_any o (q ∷ os) = rw (eqb_turned q o) (ap (λ (b : Bool). eqb o q || b) (listed_any o os))
+
+-- what the first ordinal tells: it stands again among the others, or they decide
+module _ (o : ℕ) (os : List ℕ) where
+  pub twins_found : list_any (λ q. eqb q o) os ≡ true → twins (o ∷ os) ≡ true
+  twins_found e = rw (sym (listed_any o os) ∙ e)
+
+  pub twins_passed : list_any (λ q. eqb q o) os ≡ false → twins (o ∷ os) ≡ twins os
+  twins_passed e = rw (sym (listed_any o os) ∙ e)
+
+-- ---- any order of the list
 
 pub listed_any_order : (q : ℕ) {os os' : List ℕ} → Permᴰ os os' → listed q os ≡ listed q os'
 listed_any_order q Permᴰ.nil = refl

@@ -1,3 +1,4 @@
 pub mod Limits
 pub mod Start
 pub mod Choice
+pub mod Inner

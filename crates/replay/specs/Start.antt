@@ -1,10 +1,9 @@
 -- Document 01, "Replay limits and start", as document 02's request 5 has it: the start file.
 -- Assumes nothing.
-use Rattle.std.specs.Prelude.{ℕ, suc, Bool, false, cond, ◌||◌, List, [], ◌∷◌, length, ltb, leb, eqb}
+use Rattle.std.specs.Prelude.{ℕ, suc, Bool, false, cond, ◌||◌, List, [], ◌∷◌, length, ltb, leb, eqb, Option, Some, None, Result, Ok, Err}
 use Rattle.answers.specs.Numbers.{number_of}
 use Rattle.answers.specs.Answers.{Said, accepted, refused, first_of, unless_refused}
-use Rattle.replay.specs.declared.StartAnswer.{StartAnswer}
-use Rattle.replay.specs.declared.StartAnswer.TheVariants.{File, Nothing, Refused}
+use Rattle.answers.specs.declared.Refusal.{Refusal}
 
 pub data Started : Type 0 where
   file : ℕ → Started
@@ -56,7 +55,7 @@ start_tests os = (ltb 64 (length os), 18) ∷ (twins os, 22) ∷ []
 unfoldable pub start_of : List ℕ → ℕ → Said Started
 start_of os cursor = unless_refused (first_of (start_tests os)) (accepted (started_of cursor os))
 
-abbrev pub said_start : StartAnswer → Said Started
-said_start (File place) = accepted (file place)
-said_start Nothing = accepted nothing
-said_start (Refused r) = refused (number_of r) []
+abbrev pub said_start : Result (Option ℕ) Refusal → Said Started
+said_start (Ok (Some place)) = accepted (file place)
+said_start (Ok None) = accepted nothing
+said_start (Err r) = refused (number_of r) []

@@ -1,9 +1,10 @@
+pub mod Marks
 pub mod Trials
 pub mod Walks
 pub mod Listings
 pub mod Refusals
 pub mod Counting
 pub mod Efforts
-pub mod Only
-pub mod Within
 pub mod Steps
+pub mod Within
+pub mod Only

@@ -3,12 +3,13 @@
 use Prim.Native.Nat.{ℕ}
 use mathlib.Core.Path.{◌≡◌, refl, sym, ap, ◌∙◌}
 use native.Mathlib.Omega.{arith}
-use Rattle.answers.specs.Numbers.{number_of}
+use Rattle.std.specs.Prelude.{Option, Some, None, Result, Ok, Err}
 use Rattle.answers.specs.OneAnswer.{Agree, OneAnswer}
-use Rattle.answers.proofs.Cases.{same_number}
-use Rattle.scan.specs.Walk.{said}
-use Rattle.scan.specs.declared.Walked.{Walked}
-use Rattle.scan.specs.declared.Walked.TheVariants.{Found, End, Refused, UnknownAt}
+use Rattle.answers.specs.declared.Stopped.{Stopped}
+use Rattle.answers.specs.declared.Stopped.TheVariants.{Refused, UnknownAt}
+use Rattle.answers.proofs.Cases.{stopped_once}
+use Rattle.entry.specs.declared.Entry.{Entry}
+use Rattle.scan.specs.Walk.{Step, step_of, said}
 use Rattle.scan.proofs.key_of.Kinds as key-of-kinds
 use Rattle.scan.proofs.key_of.Reads as key_of
 use Rattle.scan.proofs.value_of.Kinds as value-of-kinds
@@ -16,24 +17,20 @@ use Rattle.scan.proofs.value_of.Reads as value-of-reads
 use Rattle.scan.proofs.walk.Kinds as walk-kinds
 use Rattle.scan.proofs.walk.Reads as walk
 
+step_once : (a b : Option Entry) → step_of a ≡ step_of b → a ≡ b
+step_once (Some d) (Some e) h = cc
+step_once (Some d) None h = absurd (let z : ◌≡◌ {A = ℕ} 0 1 = cc in omega arith)
+step_once None (Some e) h = absurd (let z : ◌≡◌ {A = ℕ} 0 1 = cc in omega arith)
+step_once None None h = refl
+
 -- the paper's words tell the answers apart
-pub said_once : (a b : Walked) → said a ≡ said b → a ≡ b
-said_once (Found m) (Found n) e = cc
-said_once (Found m) End e = absurd (let z : ◌≡◌ {A = ℕ} 0 1 = cc in omega arith)
-said_once (Found m) (Refused q) e = absurd (let z : ◌≡◌ {A = ℕ} 0 1 = cc in omega arith)
-said_once (Found m) (UnknownAt k) e = absurd (let z : ◌≡◌ {A = ℕ} 0 1 = cc in omega arith)
-said_once End (Found n) e = absurd (let z : ◌≡◌ {A = ℕ} 0 1 = cc in omega arith)
-said_once End End e = refl
-said_once End (Refused q) e = absurd (let z : ◌≡◌ {A = ℕ} 0 1 = cc in omega arith)
-said_once End (UnknownAt k) e = absurd (let z : ◌≡◌ {A = ℕ} 0 1 = cc in omega arith)
-said_once (Refused r) (Found n) e = absurd (let z : ◌≡◌ {A = ℕ} 0 1 = cc in omega arith)
-said_once (Refused r) End e = absurd (let z : ◌≡◌ {A = ℕ} 0 1 = cc in omega arith)
-said_once (Refused r) (Refused q) e = let n : number_of r ≡ number_of q = cc in ap Refused (same_number r q n)
-said_once (Refused r) (UnknownAt k) e = absurd (let z : ◌≡◌ {A = ℕ} 0 1 = cc in omega arith)
-said_once (UnknownAt p) (Found n) e = absurd (let z : ◌≡◌ {A = ℕ} 0 1 = cc in omega arith)
-said_once (UnknownAt p) End e = absurd (let z : ◌≡◌ {A = ℕ} 0 1 = cc in omega arith)
-said_once (UnknownAt p) (Refused q) e = absurd (let z : ◌≡◌ {A = ℕ} 0 1 = cc in omega arith)
-said_once (UnknownAt p) (UnknownAt k) e = cc
+pub said_once : (a b : Result (Option Entry) Stopped) → said a ≡ said b → a ≡ b
+said_once (Ok x) (Ok y) e = let z : step_of x ≡ step_of y = cc in ap Ok (step_once x y z)
+said_once (Ok x) (Err (Refused r)) e = absurd (let z : ◌≡◌ {A = ℕ} 0 1 = cc in omega arith)
+said_once (Ok x) (Err (UnknownAt p)) e = absurd (let z : ◌≡◌ {A = ℕ} 0 1 = cc in omega arith)
+said_once (Err (Refused r)) (Ok y) e = absurd (let z : ◌≡◌ {A = ℕ} 0 1 = cc in omega arith)
+said_once (Err (UnknownAt p)) (Ok y) e = absurd (let z : ◌≡◌ {A = ℕ} 0 1 = cc in omega arith)
+said_once (Err x) (Err y) e = let z : ◌≡◌ {A = Result Step Stopped} (Err x) (Err y) = stopped_once (Err x) (Err y) e in cc
 
 pub walk_only : OneAnswer 1 walk-kinds.ps walk-kinds.r walk.Post
 walk_only κs args r s x y hr hs = said_once r s (hr ∙ sym hs)

@@ -2,13 +2,16 @@
 -- Assumes nothing.
 use Prim.Native.Nat.{ℕ, zero, suc, ◌+◌, ◌-◌, ◌*◌, ◌/◌, ◌^◌, ◌<◌, ◌≤◌}
 use mathlib.Core.Path.{◌≡◌, refl, sym, ap, ◌∙◌}
-use mathlib.Core.List.{List}
+use mathlib.Core.List.{List, []}
 use mathlib.Core.Bool.{Bool, true, false}
 use native.Mathlib.Omega.{arith}
 use borrow.Author.Tests.{leb-true, le-ltb}
 use lib.ListN.{length}
 use lib.Dec.{leb}
-use Rattle.answers.specs.Answers.{Said, accepted}
+use Rattle.answers.specs.Answers.{Said, accepted, refused, unless_refused}
+use Rattle.answers.specs.Numbers.{number_of}
+use Rattle.answers.specs.declared.Refusal.{Refusal}
+use Rattle.answers.proofs.Cases.{refusal_refuses}
 use Rattle.answers.specs.Limits.{largest_region}
 use Rattle.fields.specs.Numbers.{field, aligned}
 use Rattle.fields.proofs.Lines.{aligned_le}
@@ -17,6 +20,7 @@ use Rattle.entry.specs.declared.Entry.{Entry}
 use Rattle.entry.proofs.Standing.{entry_offset, entry_kind, entry_namespace, entry_long}
 use Rattle.entry.proofs.Packing.{namespace_lt}
 use Rattle.scan.specs.Walk.{Step, found, ended, Trial, done, next, or_else, pick_step, trial, walk_lines, walk_from, walk, walk_of}
+use Rattle.scan.specs.Inner.{walk_refusal}
 use Rattle.scan.proofs.Trials.{found_verified}
 
 -- an entry that a walk gave: where it stands, from a line on and before another, and that the region holds it
@@ -55,12 +59,25 @@ module _ (mark : ℕ → ℕ) (s : List ℕ) where
       go true e = sym (walk_end bound (aligned offset) (omega (arith, aligned_le offset, leb-true bound offset e)))
       go false e = refl
 
+  pub walk_none : (bound offset : ℕ) → bound ≤ offset → walk mark s bound offset ≡ accepted ended
+  walk_none bound offset h = walk_aligned bound offset ∙ walk_end bound (aligned offset) (omega (arith, aligned_le offset))
+
   pub walk_over : (bound offset : ℕ) → bound ≤ aligned offset → walk mark s bound offset ≡ accepted ended
   walk_over bound offset h = walk_aligned bound offset ∙ walk_end bound (aligned offset) h
 
   pub walk_of_accepted : (bound offset : ℕ) → length s ≤ largest_region → bound ≤ length s → walk_of mark s bound offset ≡ walk mark s bound offset
   unfolding walk_of
   walk_of_accepted bound offset h b = simp (le-ltb _ _ h, le-ltb _ _ b)
+
+  -- what refuses with 3 or 4 comes first
+  pub walk_of_refused : (bound offset : ℕ) (r : Refusal) → number_of r ≡ walk_refusal s bound → walk_of mark s bound offset ≡ refused (number_of r) []
+  unfolding walk_of
+  walk_of_refused bound offset r e = ap (λ (n : ℕ). unless_refused n (walk mark s bound offset)) (sym e) ∙ refusal_refuses r (walk mark s bound offset)
+
+  -- what the walk from the offset's line on answers is what neither of them refuses
+  pub walk_of_from : (bound offset : ℕ) {p : ℕ} {answer : Said Step} → length s ≤ largest_region → bound ≤ length s → p ≡ aligned offset → walk_from mark s bound p ≡ answer → answer ≡ walk_of mark s bound offset
+  walk_of_from bound offset h b e w =
+      sym (walk_of_accepted bound offset h b ∙ walk_aligned bound offset ∙ ap (walk_from mark s bound) (sym e) ∙ w)
 
   stands_here : (p to : ℕ) {e : Entry} → p + 16 ≤ to → trial mark s p ≡ done (accepted (found e)) → Stands mark s p to e
   stands_here p to {e} h t =

@@ -1,28 +1,29 @@
 -- Document 01, "The walk", over any mark rule, and for a file of either version (document 02, request 10).
 -- Assumes nothing.
-use Rattle.std.specs.Prelude.{ℕ, zero, suc, ◌+◌, ◌-◌, ◌/◌, List, [], ◌∷◌, Bool, true, false, not, length, leb, ltb, eqb}
-use Rattle.answers.specs.Numbers.{number_of}
-use Rattle.answers.specs.Answers.{Said, accepted, refused, first_of, unless_refused}
+use Rattle.std.specs.Prelude.{ℕ, zero, suc, ◌+◌, ◌-◌, ◌/◌, List, [], ◌∷◌, Bool, true, false, not, length, leb, ltb, eqb, Option, Some, None, Result, Ok, Err}
+use Rattle.answers.specs.Answers.{Said, accepted, refused, first_of, unless_refused, refused_by}
 use Rattle.answers.specs.Limits.{largest_region}
 use Rattle.answers.specs.Versions.{version_refusal}
+use Rattle.answers.specs.declared.Stopped.{Stopped}
 use Rattle.fields.specs.Numbers.{field, aligned}
 use Rattle.entry.specs.Words.{mark_of, word_mark, word_kind}
 use Rattle.entry.specs.Layout.{entry_at, verifies}
 use Rattle.entry.specs.declared.Entry.{Entry}
-use Rattle.scan.specs.declared.Walked.{Walked}
-use Rattle.scan.specs.declared.Walked.TheVariants.{Found, End, Refused, UnknownAt}
 
 -- what the walk finds: "the entry, its offset, and its unrounded end", or End
 pub data Step : Type 0 where
   found : Entry → Step
   ended : Step
 
+-- the same of what the code hands back
+abbrev pub step_of : Option Entry → Step
+step_of (Some e) = found e
+step_of None = ended
+
 -- the answer in the paper's words: what was found, or the refusal's number, 10 with its place
-abbrev pub said : Walked → Said Step
-said (Found e) = accepted (found e)
-said End = accepted ended
-said (Refused r) = refused (number_of r) []
-said (UnknownAt p) = refused 10 (p ∷ [])
+abbrev pub said : Result (Option Entry) Stopped → Said Step
+said (Ok step) = accepted (step_of step)
+said (Err stopped) = refused_by stopped
 
 -- what the trial of one line gives: the walk's answer, or that the next line is to be tried
 pub data Trial : Type 0 where

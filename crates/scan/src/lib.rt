@@ -1,308 +1,303 @@
 // Document 01, "The walk": the next verified entry from an offset on, and its key and value as
 // parts of the lent region. `walk`, `key_of` and `value_of` are the public operations, the walk for
 // a file of either version (document 02, request 10); the seeded walk takes the mark's seed. The
-// counted walk does the work of both and counts what it takes (request 8); the list step is that
-// walk for those that go through a whole region, as the durable end does.
+// counted walk tells beside its answer what it took (request 8), and a listing goes by it through a
+// whole region, as the durable end does.
 #![tactic(auto)]
 
-ghost use Rattle.std.specs.Prelude.{◌≡◌, ◌+◌, ◌^◌, ◌<◌, ◌≤◌, true, length};
+ghost use Rattle.std.specs.Prelude.{◌≡◌, ◌+◌, ◌-◌, ◌<◌, ◌≤◌, ◌≢◌, ◌↔◌, IsTrue, IfOk, IfSome, OnOk, MatchResult, length, min};
+ghost use Rattle.std.specs.Coded.{Coded-set};
+ghost use Rattle.answers.specs.Numbers.{number_of, number_of_verdict};
 ghost use Rattle.answers.specs.Limits.{largest_region};
-ghost use Rattle.entry.specs.Words.{mark_from};
-ghost use Rattle.entry.specs.Layout.{length_of, sum_place, intact};
+ghost use Rattle.answers.specs.declared.Stopped.TheVariants.{UnknownAt};
+ghost use Rattle.fields.specs.Numbers.{field};
+ghost use Rattle.entry.specs.Words.{mark_from, word_mark, word_kind};
+ghost use Rattle.entry.specs.Layout.{length_of, sum_place, entry_at, intact};
 ghost use Rattle.scan.specs.Walk.{said, walk_of, walk_in};
-ghost use Rattle.scan.specs.Efforts.{summed, most_per_line, said_counted, behind, counted_walk};
-ghost use Rattle.scan.specs.Inner.{Skips, Along, Tells};
+ghost use Rattle.scan.specs.Efforts.{plus, summed, most_per_line, said_counted, behind, counted_walk, list_effort};
+ghost use Rattle.scan.specs.Inner.{walk_refusal, NextMarked, goes_on, IsFound, Tells};
 ghost use Rattle.scan.specs.Parts.{part_of, part_start};
-ghost use Rattle.window.specs.Windows.{Keeps};
 
-use answers::Refusal;
+use answers::{LogFile, Refusal, Stopped};
 use entry::Entry;
-use window::Held;
-
-#[derive(Clone, Copy)]
-pub enum Walked {
-    Found(Entry),
-    End,
-    Refused(Refusal),
-    // Refusal 10: the right mark with type 3, at this place.
-    UnknownAt(usize),
-}
+use window::Window;
 
 // Lines whose mark a walk compared, and bytes that it checksummed.
-#[derive(Clone, Copy)]
+#[derive(Clone, Copy, Debug, PartialEq, Eq)]
 pub struct Effort {
     pub lines: usize,
     pub bytes: usize,
 }
 
-// What a walk answers, what it took, and how far the window has come that it was lent.
-#[derive(Clone, Copy)]
+// What a walk answers, and what it took.
+#[derive(Clone, Copy, Debug, PartialEq, Eq)]
 pub struct CountedWalk {
-    pub walked: Walked,
+    pub walked: Result<Option<Entry>, Stopped>,
     pub effort: Effort,
-    pub held: Held,
-}
-
-// How far somebody has come who goes through a region from 0 on: the offset where the next step
-// begins, what was spent up to there, and the window.
-#[derive(Clone, Copy)]
-pub struct Passed {
-    pub from: usize,
-    pub effort: Effort,
-    pub held: Held,
-}
-
-fn counted(walked: Walked, lines: usize, bytes: usize, held: Held) -> CountedWalk
-    ensures { result ≡ record { walked = walked; effort = record { lines = lines; bytes = bytes }; held = held } }
-{
-    CountedWalk {
-        walked: walked,
-        effort: Effort {
-            lines: lines,
-            bytes: bytes,
-        },
-        held: held,
-    }
 }
 
 // From this many bytes on an entry is long. The window takes up to 510 bytes of a sum one by one,
 // so a shorter one gains nothing from it.
 const LONG: usize = 512;
 
-// Whether an entry is intact, how many of its bytes were checksummed to tell, and the window.
-#[derive(Drop)]
-struct Judged {
-    intact: bool,
-    bytes: usize,
-    held: Held,
+// Refusals 3 and 4.
+fn walkable(region: &[u8], bound: usize) -> Result<(), Refusal>
+    ensures refuses { number_of_verdict result ≡ walk_refusal region.now bound }
+    ensures fits { OnOk result ((length region.now ≤ largest_region) × (bound ≤ length region.now)) }
+{
+    if answers::LARGEST_REGION < region.len() {
+        return Err(Refusal::RegionTooLarge);
+    }
+    if region.len() < bound {
+        return Err(Refusal::BoundPastRegion);
+    }
+    Ok(())
 }
 
-// An entry's sum comes from the window where one was lent, the entry is long, and the walk has
-// summed up more than twice the bytes that it has passed. Sums of whole entries are never more than
-// what was passed, so no sound log comes near that, nor one with a damaged entry or two; a hostile
-// card soon does, and from then on a sum costs the same however long its entry is.
-fn by_window(registers: usize, powers: usize, from: usize, length: usize, spent: usize) -> bool
-    requires { from < 2 ^ 63 }
-    ensures { result ≡ true → (registers ≡ 1024) × (powers ≡ 1024) × (512 ≤ length) }
+// The lines up to this place have eight bytes, and begin before the bound.
+fn lines_end(region: &[u8], bound: usize) -> usize
+    ensures { result ≡ min bound (length region.now - 7) }
 {
-    if registers != window::PLACES {
-        return false;
-    }
-    if powers != window::PLACES {
-        return false;
-    }
-    if length < LONG {
-        return false;
-    }
-    2 * from < spent
+    bound.min(region.len().saturating_sub(7))
 }
 
-// All bytes before the checksum are summed up, or none where the entry runs past the region's end.
-// Callers have the entry from `entry::entry_at`.
-fn judge(
-    region: &[u8],
-    e: Entry,
-    spent: usize,
-    registers: &mut [u16],
-    powers: &mut [u16],
-    held: Held,
-) -> Judged
-    requires { (e.end ≡ e.offset + length_of e.kind e.klen e.vlen) × (e.offset ≤ sum_place e) × (e.end ≡ sum_place e + 2) × (sum_place e ≤ e.offset + most_per_line) × Keeps registers.old powers.old region.now held.base held.count }
-    ensures { (result.intact ≡ intact region.now e) × (result.bytes ≡ summed region.now e) × Keeps registers.new powers.new region.now result.held.base result.held.count }
+// Whether the line at p has the right mark. One mask over the difference of the two marks is less
+// work than a mask over each, and a damaged card has many lines for which there is nothing else to do.
+#[tactic(auto, using(crate::proofs::Marks::differs_not, crate::proofs::Marks::differs))]
+fn is_marked(region: &[u8], seed: u32, p: usize) -> bool
+    requires { p + 8 ≤ length region.now }
+    ensures { IsTrue result ↔ (word_mark (field 4 region.now p) ≡ mark_from seed p) }
 {
-    let from = e.offset;
-    let end = e.end;
-    if region.len() < end {
-        return Judged {
-            intact: false,
-            bytes: 0,
-            held: held,
-        };
-    }
-    let bytes = end - from - 2;
-    if by_window(registers.len(), powers.len(), from, bytes, spent) {
-        let summed = window::sum_between(registers, powers, region, held, from, end - 2);
-        let now_held = summed.held;
-        return Judged {
-            intact: fields::read16(region, end - 2) == summed.sum as u64,
-            bytes: bytes,
-            held: now_held,
-        };
-    }
-    Judged {
-        intact: entry::intact(region, e),
-        bytes: bytes,
-        held: held,
-    }
+    entry::word_mark(fields::read::<4>(region, p) ^ entry::mark_at(seed, p)) == 0
 }
 
-// Passes lines from p on that have a wrong mark. A loop of its own: most lines of a damaged card
-// have one, and here there is nothing else to keep, nor to count. One test tells that eight bytes of
-// a line lie before the bound; a last line with fewer is left to the walk.
-fn skip(region: &[u8], seed: u32, bound: usize, p: usize) -> usize
-    requires { (length region.now ≤ largest_region) × (bound ≤ length region.now) × (p < bound + 16) }
-    ensures { Skips (mark_from seed) region.now bound p result }
+// The next line from p on that has the right mark. A loop of its own, and a `while`: most lines of a
+// damaged card have a wrong mark, and to make one loop of this one and its caller's, or a `for` by
+// steps of 16, takes longer for each of them.
+#[inline(never)]
+fn next_marked(region: &[u8], seed: u32, bound: usize, p: usize) -> Option<usize>
+    requires { length region.now ≤ largest_region }
+    ensures { NextMarked (mark_from seed) region.now bound p result }
 {
+    let end = lines_end(region, bound);
     let mut q = p;
-    while q + 8 <= bound {
-        let word = fields::read32(region, q);
-        if entry::word_mark(word) == entry::mark_at(seed, q) {
-            return q;
+    while q < end {
+        if is_marked(region, seed, q) {
+            return Some(q);
         }
         q += 16;
     }
-    q
+    None
 }
 
-// The walk, and what it took on top of what was spent before. Callers have seen that neither 3 nor
-// 4 refuses, and spent no more than a whole region can take. The lines that were skipped are
-// counted by their places. A walk that is lent no window, two empty slices, takes each sum from
-// the bytes.
-#[tactic(auto, using(crate::proofs::Counting::counted_short, crate::proofs::Counting::counted_over, crate::proofs::Counting::counted_aligned, crate::proofs::Counting::counted_unknown))]
+// What the bytes of a line with the right mark say, right or wrong, or 10 with its place.
+fn known_at(region: &[u8], p: usize) -> Result<Entry, Stopped>
+    requires { p + 8 ≤ length region.now }
+    ensures { MatchResult result (λ e. (word_kind (field 4 region.now p) ≢ 3) × (e ≡ entry_at region.now p)) (λ stopped. (word_kind (field 4 region.now p) ≡ 3) × (stopped ≡ UnknownAt p)) }
+{
+    if entry::word_kind(fields::read::<4>(region, p)) == entry::UNKNOWN {
+        return Err(Stopped::UnknownAt(p));
+    }
+    Ok(entry::entry_at(region, p))
+}
+
+// How many bytes are checksummed to tell whether an entry is intact: all before the checksum, or
+// none where the entry runs past the region's end. Callers have the entry from `entry::entry_at`.
+fn summed(region: &[u8], e: Entry) -> usize
+    requires { e.end ≡ e.offset + length_of e.kind e.klen e.vlen }
+    ensures { result ≡ summed region.now e }
+{
+    if e.end <= region.len() {
+        e.end - e.offset - 2
+    } else {
+        0
+    }
+}
+
+// Whether an entry is intact. Its sum comes from the window where the entry is long and the walk
+// has summed up more than twice the bytes that it has passed. Sums of whole entries are never more
+// than what was passed, so no sound log comes near that, nor one with a damaged entry or two; a
+// hostile card soon does, and from then on a sum costs the same however long its entry is. Callers
+// have the entry from `entry::entry_at`.
+fn is_intact(window: &mut Window, e: Entry, spent: usize) -> bool
+    requires { (e.offset ≤ sum_place e) × (e.end ≡ sum_place e + 2) × (sum_place e ≤ e.offset + most_per_line) }
+    ensures answer { result ≡ intact window.old.region.now e }
+    ensures region { window.new.region.now ≡ window.old.region.now }
+{
+    let region = window.region;
+    let sum = e.end - 2;
+    if e.end <= region.len() && LONG <= sum - e.offset && 2 * e.offset < spent {
+        return fields::read::<2>(region, sum) == window.sum_between(e.offset, sum) as u64;
+    }
+    entry::intact(region, e)
+}
+
+// The walk over the window's region, and what it took on top of what was spent before. Callers have
+// seen that neither 3 nor 4 refuses, and spent no more than a whole region can take. The lines are
+// counted by their places.
 pub fn counted_walk(
-    region: &[u8],
+    window: &mut Window,
     seed: u32,
     bound: usize,
     offset: usize,
     spent: Effort,
-    registers: &mut [u16],
-    powers: &mut [u16],
-    held: Held,
 ) -> CountedWalk
-    requires { (length region.now ≤ largest_region) × (bound ≤ length region.now) × (spent.lines ≤ 16777216) × (spent.bytes ≤ 4503599627370496) × Keeps registers.old powers.old region.now held.base held.count }
-    ensures { (said_counted result ≡ behind spent (counted_walk (mark_from seed) region.now bound offset)) × Keeps registers.new powers.new region.now result.held.base result.held.count }
+    requires { (length window.old.region.now ≤ largest_region) × (bound ≤ length window.old.region.now) × (spent.lines ≤ 16777216) × (spent.bytes ≤ 4503599627370496) }
+    ensures answer { said_counted result ≡ behind spent (counted_walk (mark_from seed) window.old.region.now bound offset) }
+    ensures region { window.new.region.now ≡ window.old.region.now }
 {
-    let mut lines = spent.lines;
-    let mut bytes = spent.bytes;
-    let mut base = held.base;
-    let mut count = held.count;
     if bound <= offset {
-        return counted(Walked::End, lines, bytes, held);
+        return CountedWalk {
+            walked: Ok(None),
+            effort: spent,
+        };
     }
-    let mut p = fields::align_up(offset);
+    let region = window.region;
+    let start = fields::align_up(offset);
+    let mut bytes = spent.bytes;
+    let mut p = start;
+    // The labelled walk over the lines, left from inside the trial of one, is the form that the
+    // documents name here.
     'lines: loop {
-        'trial: loop {
-            let kept = Held {
-                base: base,
-                count: count,
+        let Some(q) = next_marked(region, seed, bound, p) else {
+            let lines = spent.lines + (lines_end(region, bound).saturating_sub(start) + 15) / 16;
+            break 'lines CountedWalk {
+                walked: Ok(None),
+                effort: Effort { lines, bytes },
             };
-            if bound <= p {
-                break 'lines counted(Walked::End, lines, bytes, kept);
+        };
+        let lines = spent.lines + (q - start) / 16 + 1;
+        match known_at(region, q) {
+            Err(stopped) => {
+                break 'lines CountedWalk {
+                    walked: Err(stopped),
+                    effort: Effort { lines, bytes },
+                };
             }
-            if region.len() - p < 8 {
-                break 'lines counted(Walked::End, lines, bytes, kept);
+            Ok(e) => {
+                let intact = is_intact(window, e, bytes);
+                bytes += summed(region, e);
+                if intact {
+                    break 'lines CountedWalk {
+                        walked: Ok(Some(e)),
+                        effort: Effort { lines, bytes },
+                    };
+                }
             }
-            lines += 1;
-            let word = fields::read32(region, p);
-            if entry::word_mark(word) != entry::mark_at(seed, p) {
-                let next = skip(region, seed, bound, p + 16);
-                lines += (next - (p + 16)) / 16;
-                p = next;
-                break 'trial;
-            }
-            if entry::word_kind(word) == entry::UNKNOWN {
-                break 'lines counted(Walked::UnknownAt(p), lines, bytes, kept);
-            }
-            let e = entry::entry_at(region, p);
-            let judged = judge(region, e, bytes, registers, powers, kept);
-            bytes += judged.bytes;
-            let after = judged.held;
-            base = after.base;
-            count = after.count;
-            if judged.intact {
-                break 'lines counted(Walked::Found(e), lines, bytes, after);
-            }
-            p += 16;
-            break 'trial;
         }
+        p = q + 16;
     }
 }
 
-// Before the first step.
-pub fn nothing_passed() -> Passed
-    ensures { result ≡ record { from = 0; effort = record { lines = 0; bytes = 0 }; held = record { base = 0; count = 0 } } }
+// Where a listing goes on: behind the entry that was found. Where none was, there is nothing more.
+fn goes_on(walked: Result<Option<Entry>, Stopped>, bound: usize) -> usize
+    ensures { result ≡ goes_on bound walked }
 {
-    Passed {
-        from: 0,
-        effort: Effort { lines: 0, bytes: 0 },
-        held: Held { base: 0, count: 0 },
+    match walked {
+        Ok(Some(e)) => e.end,
+        Ok(None) | Err(_) => bound,
     }
 }
 
-// Behind the entry that a step found.
-pub fn passed_behind(e: Entry, step: CountedWalk) -> Passed
-    ensures { result ≡ record { from = e.end; effort = step.effort; held = step.held } }
-{
-    let effort = step.effort;
-    let held = step.held;
-    Passed {
-        from: e.end,
-        effort: effort,
-        held: held,
+// The listing of a region, entry by entry, for those that go through a region from 0 on: where its
+// next walk begins, and what was spent up to there. The window goes on from walk to walk, so that
+// no card makes them sum up the same bytes over and over.
+#[derive(Drop)]
+pub struct Listing<'a> {
+    window: Window<'a>,
+    seed: u32,
+    bound: usize,
+    from: usize,
+    effort: Effort,
+    ghost small: { length window.region.now ≤ largest_region },
+    ghost inside: { bound ≤ length window.region.now },
+    ghost along: { from ≤ length window.region.now },
+    ghost rest: { plus effort (list_effort (mark_from seed) window.region.now bound from) ≡ list_effort (mark_from seed) window.region.now bound 0 } by { Coded-set effort-code _ _ },
+}
+
+impl<'a> Listing<'a> {
+    // Before the first walk. Refusals 3 and 4.
+    pub fn new(region: &'a [u8], seed: u32, bound: usize) -> Result<Listing<'a>, Refusal>
+        ensures { MatchResult result (λ l. (walk_refusal region.now bound ≡ 0) × (l.window.region.now ≡ region.now) × (l.seed ≡ seed) × (l.bound ≡ bound) × (l.from ≡ 0)) (λ r. walk_refusal region.now bound ≡ number_of r) }
+    {
+        walkable(region, bound)?;
+        Ok(Listing {
+            window: Window::on(region),
+            seed,
+            bound,
+            from: 0,
+            effort: Effort { lines: 0, bytes: 0 },
+        })
+    }
+
+    // The next entry, or what ends the listing: the walk from the last entry's end. Behind what ends
+    // it there is nothing more.
+    pub fn next(&mut self) -> Result<Option<Entry>, Stopped>
+        ensures tells { Tells (mark_from self.old.seed) self.old.window.region.now self.old.bound self.old.from result self.new.from self.new.effort }
+        ensures found { IfOk result (λ step. IfSome step (IsFound self.old.window.region.now self.old.bound self.old.from)) }
+        ensures same { (self.new.window.region.now ≡ self.old.window.region.now) × (self.new.seed ≡ self.old.seed) × (self.new.bound ≡ self.old.bound) }
+    {
+        let step = counted_walk(
+            &mut self.window,
+            self.seed,
+            self.bound,
+            self.from,
+            self.effort,
+        );
+        self.from = goes_on(step.walked, self.bound);
+        self.effort = step.effort;
+        step.walked
+    }
+
+    // What the walks took so far.
+    pub fn effort(&self) -> Effort
+        ensures { result ≡ self.now.effort }
+    {
+        self.effort
     }
 }
 
-// One step along the whole listing, for those that go through a region from 0 on: the next entry,
-// or what ends the listing. The window goes on from step to step, so that no card makes them sum up
-// the same bytes over and over. Callers have seen that neither 3 nor 4 refuses; they begin with
-// `nothing_passed`, and go on with `passed_behind`.
-pub fn list_step(
+// The next verified entry from `offset` on, up to `bound`, by the seed of the marks. Refusals 3, 4,
+// then 10 with its place. It goes over the lines by itself, since one walk has no use for a window: to
+// zero a window's 4,096 bytes takes longer than to find a short entry (30 ns beside 21).
+pub fn seeded_walk(
     region: &[u8],
     seed: u32,
     bound: usize,
-    passed: Passed,
-    registers: &mut [u16],
-    powers: &mut [u16],
-) -> CountedWalk
-    requires { (length region.now ≤ largest_region) × (bound ≤ length region.now) × Along (mark_from seed) region.now bound passed × Keeps registers.old powers.old region.now passed.held.base passed.held.count }
-    ensures { Tells (mark_from seed) region.now bound passed.from result × Keeps registers.new powers.new region.now result.held.base result.held.count }
-{
-    let from = passed.from;
-    let effort = passed.effort;
-    let held = passed.held;
-    counted_walk(region, seed, bound, from, effort, registers, powers, held)
-}
-
-#[tactic(auto, unfolding(crate::specs::Walk::walk_of))]
-pub fn seeded_walk(region: &[u8], seed: u32, bound: usize, offset: usize) -> Walked
+    offset: usize,
+) -> Result<Option<Entry>, Stopped>
     ensures { said result ≡ walk_of (mark_from seed) region.now bound offset }
 {
-    if answers::LARGEST_REGION < region.len() {
-        return Walked::Refused(Refusal::RegionTooLarge);
+    walkable(region, bound)?;
+    if bound <= offset {
+        return Ok(None);
     }
-    if region.len() < bound {
-        return Walked::Refused(Refusal::BoundPastRegion);
+    let mut from = fields::align_up(offset);
+    while let Some(q) = next_marked(region, seed, bound, from) {
+        let e = known_at(region, q)?;
+        if entry::intact(region, e) {
+            return Ok(Some(e));
+        }
+        from = q + 16;
     }
-    let nothing = Effort { lines: 0, bytes: 0 };
-    let mut registers = [0u16; 0];
-    let mut powers = [0u16; 0];
-    let held = Held { base: 0, count: 0 };
-    let counted = counted_walk(
-        region,
-        seed,
-        bound,
-        offset,
-        nothing,
-        &mut registers,
-        &mut powers,
-        held,
-    );
-    counted.walked
+    Ok(None)
 }
 
-// The next verified entry from `offset` on, up to `bound`, in a file of this version and ordinal.
-// Refusals 2, 3, 4, then 10 with its place.
-pub fn walk(region: &[u8], version: u64, ordinal: u64, bound: usize, offset: usize) -> Walked
-    ensures { said result ≡ walk_in version ordinal region.now bound offset }
+// The same in a file of this version and ordinal, where 2 comes first.
+pub fn walk(
+    region: &[u8],
+    file: LogFile,
+    bound: usize,
+    offset: usize,
+) -> Result<Option<Entry>, Stopped>
+    ensures { said result ≡ walk_in file.version file.ordinal region.now bound offset }
 {
-    if !answers::is_version(version) {
-        return Walked::Refused(Refusal::WrongHeader);
-    }
-    let seed = entry::seed_of(version, ordinal);
+    let seed = entry::seed_in(file)?;
     seeded_walk(region, seed, bound, offset)
 }
 
-// len bytes of the region from `at` on, or an empty part where they run past its end.
+// len bytes of the region from `at` on, or an empty part where they run past its end, as the documents
+// have it.
 pub fn part_of(region: &[u8], at: usize, len: usize) -> &[u8]
     ensures bytes { result.now ≡ part_of region.now at len }
     ensures lent { (result.ref_ptr.0 ≡ region.entry.ref_ptr.0) × (result.ref_ptr.1 ≡ region.entry.ref_ptr.1 + part_start region.now at len) }
@@ -316,7 +311,7 @@ pub fn part_of(region: &[u8], at: usize, len: usize) -> &[u8]
     &region[at..at + len]
 }
 
-// Where that part begins in the region.
+// Where that part begins in the region: C asks for it by itself, so it has the same two tests.
 pub fn part_start(region: &[u8], at: usize, len: usize) -> usize
     ensures { result ≡ part_start region.now at len }
 {
@@ -330,7 +325,7 @@ pub fn part_start(region: &[u8], at: usize, len: usize) -> usize
 }
 
 // The key's own bytes in the region, empty where the places don't fit it: `lent` says that the part
-// points into the caller's region, and where.
+// points into the caller's region, and where. Key and value are two public operations of one line each.
 pub fn key_of(region: &[u8], e: Entry) -> &[u8]
     ensures bytes { result.now ≡ part_of region.now e.kplace e.klen }
     ensures lent { (result.ref_ptr.0 ≡ region.entry.ref_ptr.0) × (result.ref_ptr.1 ≡ region.entry.ref_ptr.1 + part_start region.now e.kplace e.klen) }

@@ -12,9 +12,9 @@ ghost use Rattle.scan.specs.Listing.{list};
 ghost use Rattle.tail.specs.Tail.{used_bound};
 ghost use Rattle.counts.specs.Totals.{cell, total};
 
-use card::write;
-use header::HeaderRead;
-use std::io;
+use answers::LogFile;
+use card::Fault;
+use std::{fmt, io};
 
 // A column of the grid: how many entries of each type stand in one namespace.
 #[derive(Drop)]
@@ -24,22 +24,18 @@ struct Column {
     tombstones: u64,
 }
 
-fn write_number(out: &impl Print, before: &[u8], n: u64) -> io::Result<()> {
-    write(out, before)?;
-    print!(out; "{n}")
+impl fmt::Display for Column {
+    fn fmt<W: fmt::Write>(&self, f: &mut fmt::Formatter<W>) -> fmt::Result {
+        write!(f, "{} {} {}", self.inserts, self.updates, self.tombstones)
+    }
 }
 
-fn wide(n: u32) -> u64
-    ensures { (result ≡ n) × (result < 4294967296) }
-{
-    n as u64
-}
-
+// The kind is a row of the grid, which the documents have as an array of arrays.
 fn count_in(grid: [[u32; 64]; 3], kind: usize, ns: usize) -> u64
     requires { (kind < 3) × (ns < 64) }
     ensures { (result ≡ cell grid kind ns) × (result < 4294967296) }
 {
-    wide(grid[kind][ns])
+    u64::from(grid[kind][ns])
 }
 
 fn column_of(grid: [[u32; 64]; 3], ns: usize) -> Column
@@ -61,11 +57,7 @@ fn write_column(out: &impl Print, ns: usize, column: Column) -> io::Result<u64>
 {
     let entries = column.inserts + column.updates + column.tombstones;
     if 0 < entries {
-        write_number(out, b"", ns as u64)?;
-        write_number(out, b" ", column.inserts)?;
-        write_number(out, b" ", column.updates)?;
-        write_number(out, b" ", column.tombstones)?;
-        write(out, b"\n")?;
+        println!(out; "{ns} {column}")?;
     }
     Ok(entries)
 }
@@ -76,59 +68,36 @@ fn write_columns(out: &impl Print, grid: [[u32; 64]; 3]) -> io::Result<u64>
     ensures { IfOk result (λ told. told ≡ total grid) }
 {
     let mut told: u64 = 0;
-    let mut ns = 0;
-    while ns < 64 {
+    for ns in 0..64 {
         told += write_column(out, ns, column_of(grid, ns))?;
-        ns += 1;
     }
     Ok(told)
 }
 
 // The last line. No number is written there that isn't the listing's length: callers prove that it is.
-// Region, version and ordinal are lent for that promise alone.
-fn write_entries(
-    out: &impl Print,
-    region: &[u8],
-    version: u64,
-    ordinal: u64,
-    entries: u64,
-) -> io::Result<()>
-    requires { entries ≡ length (list (mark_of version ordinal) region.now (used_bound region.now) 0).entries }
+// Region and file are lent for that promise alone.
+fn write_entries(out: &impl Print, region: &[u8], file: LogFile, entries: u64) -> io::Result<()>
+    requires { entries ≡ length (list (mark_of file.version file.ordinal) region.now (used_bound region.now) 0).entries }
 {
-    write_number(out, b"entries ", entries)?;
-    write(out, b"\n")
+    println!(out; "entries {entries}")
 }
 
-fn show_data(out: &impl Print, region: &[u8], version: u64, ordinal: u64) -> io::Result<()> {
-    let mut answer: u32 = 0;
-    let mut place: u64 = 0;
-    let grid = counts::count_entries(region, version, ordinal, &mut answer, &mut place);
-    if answer == 10 {
-        return card::write_refused_at(out, place);
-    }
-    if answer != 0 {
-        return card::write_refused(out, answer);
-    }
-    write(out, b"ns insert update tombstone\n")?;
+// Of any file. With a refusal there is no grid.
+#[tactic(auto, using(counts::proofs::Totals::told_total))]
+fn show_data(out: &impl Print, region: &[u8], file: LogFile) -> Result<(), Fault> {
+    let grid = counts::count_entries(region, file)?;
+    println!(out; "ns insert update tombstone")?;
     let entries = write_columns(out, grid)?;
-    write_entries(out, region, version, ordinal, entries)
+    write_entries(out, region, file, entries)?;
+    Ok(())
 }
 
-fn show_card(out: &impl Print, card: &[u8]) -> io::Result<()> {
-    let read = header::read_header(card);
-    match read {
-        HeaderRead::Header { version, ordinal } => {
-            show_data(out, &card[header::HEADER_LENGTH..], version, ordinal)
-        }
-        HeaderRead::Refused(refusal) => card::write_refusal(out, refusal),
-    }
+fn show_card(out: &impl Print, card: &[u8]) -> Result<(), Fault> {
+    let (file, region) = card::file_and_data(card)?;
+    show_data(out, region, file)
 }
 
 fn main(rt: HostRuntime) -> io::Result<()> {
     let mut room = card::room();
-    let n = card::read_full(&mut rt.stdin(), &mut room);
-    if card::is_whole(&rt, n, room.len(), b"screen")? {
-        show_card(&rt, &room[..n])?;
-    }
-    Ok(())
+    card::on_card(&rt, &mut room, "screen", |card| show_card(&rt, card))
 }

@@ -4,7 +4,6 @@
 use Prim.Native.Nat.{ℕ}
 use mathlib.Core.Path.{◌≡◌, refl, sym, ◌∙◌}
 use mathlib.Core.List.{List}
-use native.Mathlib.Omega.{arith}
 use seplogic.Ra.Ura.{Ura}
 use base.Logic.{SProp}
 use base.Fml.{Lft}
@@ -20,21 +19,18 @@ use Rattle.tracker.specs.declared.Least.{Least}
 use Rattle.tracker.specs.Least.{least_of}
 use Rattle.slots.specs.Slots.{said_slot, SlotAbandoned}
 use Rattle.slots.specs.declared.KeptSlot.{KeptSlot}
-use Rattle.slots.specs.declared.SlotAnswer.{SlotAnswer}
-use Rattle.slots.specs.declared.SlotAnswer.TheVariants.{Done, Stale}
+use Rattle.tracker.specs.declared.Finish.{Finish}
+use Rattle.tracker.proofs.Sayings.{finished_once}
 use Rattle.slots.specs.contracts.abandon_slot as abandon-slot
 use Rattle.slots.specs.contracts.abandon_kept as abandon-kept
 use Rattle.slots.specs.contracts.least_along as least-along
 use Rattle.slots.specs.contracts.least_of as least-of
 
-pub slot_says : (x y : SlotAnswer) → said_slot x ≡ said_slot y → x ≡ y
-slot_says Done Done e = refl
-slot_says Done Stale e = let z : ◌≡◌ {A = ℕ} 0 1 = cc in absurd (omega arith)
-slot_says Stale Done e = let z : ◌≡◌ {A = ℕ} 0 1 = cc in absurd (omega arith)
-slot_says Stale Stale e = refl
+pub slot_says : (x y : Finish) → said_slot x ≡ said_slot y → x ≡ y
+slot_says = finished_once
 
 -- of `abandon_slot`, and of `abandon_kept`, which promises the same
-pub abandon_slot_only : (slot : Slot) (number : ℕ) (after after' : Slot) (r r' : SlotAnswer)
+pub abandon_slot_only : (slot : Slot) (number : ℕ) (after after' : Slot) (r r' : Finish)
     → SlotAbandoned slot number after r → SlotAbandoned slot number after' r' → (after ≡ after') × (r ≡ r')
 abandon_slot_only slot number after after' r r' a b = (a.left ∙ sym b.left, slot_says r r' (a.answer ∙ sym b.answer))
 
@@ -43,7 +39,7 @@ pub least_along_only : (slots : List Slot) (ordinal used : ℕ) (r r' : Least) �
 least_along_only slots ordinal used r r' a b = a ∙ sym b
 
 module _ {M : Type 1} {𝓤 : Ura M} (𝓛 : Logic 𝓤) (mem : Memory → SProp 𝓤) (run : Routine → Fun 𝓤) where
-  pub abandon_slot_says : (κ : Lft) (slot : MutBor Slot) (number : ℕ) (after : Slot) (r : SlotAnswer)
+  pub abandon_slot_says : (κ : Lft) (slot : MutBor Slot) (number : ℕ) (after : Slot) (r : Finish)
       → (abandon-slot.clauses 𝓛 mem run (κ, tt) (slot, (number, tt))).ensures tt r (at_exit abandon-slot.ended (κ, tt) (slot, (number, tt)) (after, (tt, tt)))
       ≡ fact 𝓤 (SlotAbandoned slot.now number after r)
   abandon_slot_says κ slot number after r = refl

@@ -1,31 +1,25 @@
 // Document 01, "Forms that must change": the abandon as a call that clears one lent slot in place,
 // and the cursor as a search along a lent run of slot records. Both answer by the definitions of
-// the tracker by value. Each form has a twin with plain parameters below it, for callers that have
-// a value and nothing to lend.
+// the tracker by value. `abandon_kept` and `least_of` below have plain parameters: the table of public
+// operations (docs/ENTRY-POINTS.md) promises both.
 #![tactic(auto)]
 
 ghost use Rattle.std.specs.Prelude.{◌≡◌};
 ghost use Rattle.tracker.specs.Least.{least_of};
 ghost use Rattle.slots.specs.Slots.{SlotAbandoned};
 
-use tracker::{Least, Slot};
-
-#[derive(Drop)]
-pub enum SlotAnswer {
-    Done,
-    Stale,
-}
+use tracker::{Finish, Least, Slot};
 
 // The slot becomes idle if it has that number and the number isn't 0; only its number changes.
 #[tactic(auto, unfolding(tracker::specs::Finishing::matches, tracker::specs::Finishing::slot_after))]
-pub fn abandon_slot(slot: &mut Slot, number: u64) -> SlotAnswer
+pub fn abandon_slot(slot: &mut Slot, number: u64) -> Finish
     ensures { SlotAbandoned slot.old number slot.new result }
 {
     if number != 0 && slot.number == number {
         slot.number = 0;
-        SlotAnswer::Done
+        Finish::Done
     } else {
-        SlotAnswer::Stale
+        Finish::Stale
     }
 }
 
@@ -34,24 +28,13 @@ pub fn abandon_slot(slot: &mut Slot, number: u64) -> SlotAnswer
 pub fn least_along(slots: &[Slot], ordinal: u64, used: u64) -> Least
     ensures { result ≡ least_of ordinal used slots.now }
 {
-    let mut least = Least {
-        any: false,
-        ordinal: ordinal,
-        offset: used,
-        limit: 0xffff_ffff_ffff_ffff,
-    };
-    let mut i: usize = 0;
-    while i < slots.len() {
-        least = tracker::step(least, slots[i]);
-        i += 1;
-    }
-    least
+    tracker::least_open(slots, ordinal, used)
 }
 
-#[derive(Drop)]
+#[derive(Clone, Copy)]
 pub struct KeptSlot {
     pub slot: Slot,
-    pub answer: SlotAnswer,
+    pub answer: Finish,
 }
 
 // What `abandon_slot` leaves and answers, with plain parameters.
@@ -60,10 +43,7 @@ pub fn abandon_kept(slot: Slot, number: u64) -> KeptSlot
 {
     let mut kept = slot;
     let answer = abandon_slot(&mut kept, number);
-    KeptSlot {
-        slot: kept,
-        answer: answer,
-    }
+    KeptSlot { slot: kept, answer }
 }
 
 // What `least_along` answers for the sixteen slots of a tracker, with plain parameters.

@@ -1,13 +1,17 @@
 -- Document 02, request 8: what the durable end takes, and that it keeps the two bounds.
 -- Assumes nothing.
 use Prim.Native.Nat.{ℕ, zero, suc, ◌<◌, ◌≤◌}
-use mathlib.Core.Path.{◌≡◌}
+use mathlib.Core.Path.{◌≡◌, refl, ap, ◌∙◌}
 use mathlib.Core.List.{List, [], ◌∷◌}
 use native.Mathlib.Omega.{arith}
 use borrow.Author.Tests.{le-ltb}
 use lib.ListN.{length, get_or}
 use lib.Dec.{ltb}
+use Rattle.answers.specs.Numbers.{number_of}
 use Rattle.answers.specs.Answers.{first_of}
+use Rattle.answers.specs.declared.Refusal.{Refusal}
+use Rattle.answers.proofs.Cases.{number_not_zero}
+use Rattle.scan.specs.Inner.{walk_refusal}
 use Rattle.answers.specs.Limits.{largest_region}
 use Rattle.answers.specs.Versions.{version_refusal}
 use Rattle.fields.specs.Numbers.{aligned}
@@ -20,6 +24,14 @@ use Rattle.tail.specs.Efforts.{effort_unless, effort_of, effort_in, Within}
 pub none_within : (bound : ℕ) → Within bound no_effort
 none_within bound = record { lines = omega arith; bytes = omega arith }
 
+-- a refusal comes before any line is tried
+pub refusal_tries_none : (r : Refusal) (effort : Effort) → effort_unless (number_of r) effort ≡ no_effort
+refusal_tries_none r effort = go (number_of r) (number_not_zero r)
+  where
+    go : (n : ℕ) → (n ≡ 0 → ⊥) → effort_unless n effort ≡ no_effort
+    go zero h = absurd (h refl)
+    go (suc n) h = refl
+
 unless_within : (bound n : ℕ) {effort : Effort} → Within bound effort → Within bound (effort_unless n effort)
 unless_within bound zero h = h
 unless_within bound (suc n) h = none_within bound
@@ -29,6 +41,14 @@ module _ (s : List ℕ) (bound : ℕ) where
   pub effort_accepted : (mark : ℕ → ℕ) → length s ≤ largest_region → bound ≤ length s → effort_of mark s bound ≡ list_effort mark s bound 0
   unfolding effort_of
   effort_accepted mark small within = simp (le-ltb _ _ small, le-ltb _ _ within)
+
+  pub effort_unrefused : (mark : ℕ → ℕ) → walk_refusal s bound ≡ 0 → effort_of mark s bound ≡ list_effort mark s bound 0
+  unfolding effort_of
+  effort_unrefused mark e = ap (λ (n : ℕ). effort_unless n (list_effort mark s bound 0)) e
+
+  pub effort_refused : (mark : ℕ → ℕ) (r : Refusal) → walk_refusal s bound ≡ number_of r → effort_of mark s bound ≡ no_effort
+  unfolding effort_of
+  effort_refused mark r e = ap (λ (n : ℕ). effort_unless n (list_effort mark s bound 0)) e ∙ refusal_tries_none r (list_effort mark s bound 0)
 
   -- a region holds bytes
   module _ (bytes : (i : ℕ) → get_or s i 0 < 256) where

@@ -1,7 +1,6 @@
 -- Document 01, "Used bound" and "Durable end", which is for a file of either version (document 02, request 10).
 -- Assumes nothing.
 use Rattle.std.specs.Prelude.{ℕ, zero, suc, min, List, [], ◌∷◌, length, get_or, ltb, eqb}
-use Rattle.answers.specs.Numbers.{number_of}
 use Rattle.answers.specs.Answers.{Said, accepted, refused, pick_number, first_of, unless_refused}
 use Rattle.answers.specs.Limits.{largest_region}
 use Rattle.answers.specs.Versions.{version_refusal}
@@ -9,10 +8,6 @@ use Rattle.fields.specs.Numbers.{aligned}
 use Rattle.entry.specs.Words.{mark_of}
 use Rattle.scan.specs.Walk.{Step}
 use Rattle.scan.specs.Listing.{Listed, list, last_end}
-use Rattle.tail.specs.declared.UsedBound.{UsedBound}
-use Rattle.tail.specs.declared.UsedBound.TheVariants as bound-said
-use Rattle.tail.specs.declared.DurableEnd.{DurableEnd}
-use Rattle.tail.specs.declared.DurableEnd.TheVariants as end-said
 
 -- one past the last nonzero byte among the first n, or 0
 unfoldable pub nonzero_to : List ℕ → ℕ → ℕ
@@ -26,11 +21,6 @@ used_bound s = min (aligned (nonzero_to s (length s))) (length s)
 -- "Used bound 3."
 unfoldable pub used_of : List ℕ → Said ℕ
 used_of s = unless_refused (first_of ((ltb largest_region (length s), 3) ∷ [])) (accepted (used_bound s))
-
--- the answer in the paper's words
-abbrev pub said_used : UsedBound → Said ℕ
-said_used (bound-said.Bound n) = accepted n
-said_used (bound-said.Refused r) = refused (number_of r) []
 
 -- what the listing gives, unless it was ended by a refusal
 abbrev pub unless_stopped : {A : Type 0} → Said Step → A → Said A
@@ -49,8 +39,3 @@ durable_of mark s bound =
 -- "every call that needs a mark takes both", version and ordinal, and 2 comes "before all others"
 abbrev pub durable_in : (version ordinal : ℕ) → List ℕ → ℕ → Said ℕ
 durable_in version ordinal s bound = unless_refused (version_refusal version) (durable_of (mark_of version ordinal) s bound)
-
-abbrev pub said_durable : DurableEnd → Said ℕ
-said_durable (end-said.End n) = accepted n
-said_durable (end-said.Refused r) = refused (number_of r) []
-said_durable (end-said.UnknownAt p) = refused 10 (p ∷ [])

@@ -1,7 +1,8 @@
 -- What a tracker call answers and leaves behind its two pointers: document 01's number, the tracker, and the out parameter.
 -- Assumes nothing.
-use Rattle.std.specs.Prelude.{ℕ, Bool, true, false, List, ◌≡◌, ℤ}
-use Rattle.answers.specs.Answers.{Said, accepted, refused, afterwards, number_said, value_out}
+use Rattle.std.specs.Prelude.{ℕ, Bool, true, false, List, ◌≡◌, ℤ, Result}
+use Rattle.answers.specs.Answers.{Said, accepted, refused, afterwards, said, number_said, value_out}
+use Rattle.answers.specs.declared.Refusal.{Refusal}
 use Rattle.tracker.specs.declared.Tracker.{Tracker}
 use Rattle.tracker.specs.declared.Slot.{Slot}
 use Rattle.tracker.specs.State.{State, view, fresh_state}
@@ -11,8 +12,15 @@ use Rattle.tracker.specs.Finishing.{Finished, done, stale, finish_of, completed,
 use Rattle.tracker.specs.Checkpoints.{Reached, checkpoint_of}
 use Rattle.tracker.specs.Draining.{drain_of, drained}
 use Rattle.tracker.specs.Clearing.{Empty, clear_of, cleared}
-use Rattle.told.specs.declared.Reserved.{Reserved}
+use Rattle.tracker.specs.declared.Reserved.{Reserved}
 use Rattle.told.specs.declared.Progress.{Progress}
+use Rattle.told.specs.declared.Stored.{Stored}
+
+-- an answer as it is to be stored: what is left behind the pointer, the out parameter, and the number
+pub record IsStored {S O : Type 0} (answer : Result O Refusal) (old : O) (left : S) (r : Stored S O) : Type 0 where
+  pub left_is : r.left ≡ left
+  pub tells : r.out ≡ value_out (said answer) old
+  pub says : r.answer ≡ number_said (said answer)
 
 -- As `Met` of the tracker's specs/Outcome, with the number for the answer and the out parameter beside it: B is what the out parameter holds, and
 -- `told` says what it holds afterwards.
@@ -57,8 +65,11 @@ abbrev pub one_for : Bool → ℕ
 one_for true = 1
 one_for false = 0
 
+abbrev pub progress_of : Reached → Progress
+progress_of a = record { ordinal = a.ordinal; offset = a.offset; sum = a.sum; limit = a.limit; pending = one_for a.pending }
+
 abbrev pub progress_out : Said Reached → Progress → Progress
-progress_out (accepted a) old = record { ordinal = a.ordinal; offset = a.offset; sum = a.sum; limit = a.limit; pending = one_for a.pending }
+progress_out (accepted a) old = progress_of a
 progress_out (refused n values) old = old
 
 -- the checkpoint leaves the tracker alone: it is lent for reading only

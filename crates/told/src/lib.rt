@@ -5,28 +5,17 @@
 #![tactic(auto)]
 
 ghost use Rattle.std.specs.Prelude.{◌≡◌};
-ghost use Rattle.answers.specs.Answers.{number_said};
-ghost use Rattle.tracker.specs.Finishing.{said_finish};
-ghost use Rattle.told.specs.Told.{ReserveOut, RecordOut, CompleteOut, AbandonOut, CheckpointOut, DrainOut, ClearOut, FreshOut, SlotOut, done_out, one_for};
+ghost use Rattle.tracker.specs.Finishing.{finished};
+ghost use Rattle.tracker.specs.Checkpoints.{reached};
+ghost use Rattle.told.specs.Told.{ReserveOut, RecordOut, CompleteOut, AbandonOut, CheckpointOut, DrainOut, ClearOut, FreshOut, SlotOut, IsStored, done_number, progress_of};
 
-use slots::SlotAnswer;
-use tracker::{
-    CheckpointAnswer, ClearAnswer, DrainAnswer, FinishAnswer, RecordAnswer, ReserveAnswer, Slot,
-    Tracker,
-};
+use answers::Refusal;
+use tracker::{Finish, Reserved, Slot, Tracker};
 
-// What an accepted reserve tells: its number, its place, and the used count afterwards.
+// What an accepted checkpoint tells. `pending` is 1 or 0: C has a number there, and so this stands
+// beside the tracker's own struct.
 #[repr(C)]
-#[derive(Clone, Copy)]
-pub struct Reserved {
-    pub number: u64,
-    pub place: u64,
-    pub used: u64,
-}
-
-// What an accepted checkpoint tells. `pending` is 1 or 0.
-#[repr(C)]
-#[derive(Clone, Copy)]
+#[derive(Clone, Copy, Debug, PartialEq, Eq)]
 pub struct Progress {
     pub ordinal: u64,
     pub offset: u64,
@@ -35,11 +24,54 @@ pub struct Progress {
     pub pending: u64,
 }
 
-#[derive(Drop)]
-pub struct ReserveTold {
-    pub tracker: Tracker,
-    pub out: Reserved,
+// What is to be stored after a call: what stands behind its pointer, what it tells in its out
+// parameter, and its number, as C has them.
+#[derive(Clone, Copy)]
+pub struct Stored<S, O> {
+    pub left: S,
+    pub out: O,
     pub answer: u32,
+}
+
+// An answer as it is to be stored. A refusal leaves the out parameter as it came.
+fn to_store<S, O: Copy>(left: S, answer: Result<O, Refusal>, out: O) -> Stored<S, O>
+    ensures { IsStored answer out left result }
+{
+    match answer {
+        Ok(value) => Stored {
+            left,
+            out: value,
+            answer: 0,
+        },
+        Err(refusal) => Stored {
+            left,
+            out,
+            answer: refusal.number(),
+        },
+    }
+}
+
+// What a finished call tells C: 1 for Done and 0 for Stale.
+fn finish_number(finish: Finish) -> u64
+    ensures { result ≡ done_number (finished finish) }
+{
+    match finish {
+        Finish::Done => 1,
+        Finish::Stale => 0,
+    }
+}
+
+// What a checkpoint tells.
+fn progress_told(answer: tracker::Progress) -> Progress
+    ensures { result ≡ progress_of (reached answer) }
+{
+    Progress {
+        ordinal: answer.ordinal,
+        offset: answer.offset,
+        sum: answer.sum,
+        limit: answer.limit,
+        pending: u64::from(answer.pending),
+    }
 }
 
 pub fn reserve(
@@ -51,237 +83,74 @@ pub fn reserve(
     sealed: bool,
     length: u64,
     out: Reserved,
-) -> ReserveTold
-    ensures { ReserveOut tracker shard ordinal used capacity sealed length out result.tracker result.out result.answer }
+) -> Stored<Tracker, Reserved>
+    ensures { ReserveOut tracker shard ordinal used capacity sealed length out result.left result.out result.answer }
 {
     let after = tracker::reserve(tracker, shard, ordinal, used, capacity, sealed, length);
-    let left = after.tracker;
-    let answer = after.answer;
-    match answer {
-        ReserveAnswer::Reserved {
-            number: n,
-            place: p,
-            used: u,
-        } => ReserveTold {
-            tracker: left,
-            out: Reserved {
-                number: n,
-                place: p,
-                used: u,
-            },
-            answer: 0,
-        },
-        ReserveAnswer::Refused(refusal) => ReserveTold {
-            tracker: left,
-            out: out,
-            answer: answers::number(refusal),
-        },
-    }
-}
-
-// A call that tells one number.
-#[derive(Drop)]
-pub struct NumberTold {
-    pub tracker: Tracker,
-    pub out: u64,
-    pub answer: u32,
+    to_store(after.tracker, after.answer, out)
 }
 
 // Tells the number that it took.
-pub fn record(tracker: Tracker, shard: usize, delta: i8, out: u64) -> NumberTold
-    ensures { RecordOut tracker shard delta out result.tracker result.out result.answer }
+pub fn record(tracker: Tracker, shard: usize, delta: i8, out: u64) -> Stored<Tracker, u64>
+    ensures { RecordOut tracker shard delta out result.left result.out result.answer }
 {
     let after = tracker::record(tracker, shard, delta);
-    let left = after.tracker;
-    let answer = after.answer;
-    match answer {
-        RecordAnswer::Recorded { number: n } => NumberTold {
-            tracker: left,
-            out: n,
-            answer: 0,
-        },
-        RecordAnswer::Refused(refusal) => NumberTold {
-            tracker: left,
-            out: out,
-            answer: answers::number(refusal),
-        },
-    }
+    to_store(after.tracker, after.answer, out)
 }
 
-// What a finished call tells: 1 for Done and 0 for Stale.
-fn done_out(answer: FinishAnswer, out: u64) -> u64
-    ensures { result ≡ done_out (said_finish answer) out }
-{
-    match answer {
-        FinishAnswer::Done => 1,
-        FinishAnswer::Stale => 0,
-        FinishAnswer::Refused(refusal) => out,
-    }
-}
-
-fn finish_number(answer: FinishAnswer) -> u32
-    ensures { result ≡ number_said (said_finish answer) }
-{
-    match answer {
-        FinishAnswer::Done => 0,
-        FinishAnswer::Stale => 0,
-        FinishAnswer::Refused(refusal) => answers::number(refusal),
-    }
-}
-
-pub fn complete(tracker: Tracker, shard: usize, number: u64, delta: i8, out: u64) -> NumberTold
-    ensures { CompleteOut tracker shard number delta out result.tracker result.out result.answer }
+pub fn complete(
+    tracker: Tracker,
+    shard: usize,
+    number: u64,
+    delta: i8,
+    out: u64,
+) -> Stored<Tracker, u64>
+    ensures { CompleteOut tracker shard number delta out result.left result.out result.answer }
 {
     let after = tracker::complete(tracker, shard, number, delta);
-    let left = after.tracker;
-    let answer = after.answer;
-    NumberTold {
-        tracker: left,
-        out: done_out(answer, out),
-        answer: finish_number(answer),
-    }
+    to_store(after.tracker, after.answer.map(finish_number), out)
 }
 
-pub fn abandon(tracker: Tracker, shard: usize, number: u64, out: u64) -> NumberTold
-    ensures { AbandonOut tracker shard number out result.tracker result.out result.answer }
+pub fn abandon(tracker: Tracker, shard: usize, number: u64, out: u64) -> Stored<Tracker, u64>
+    ensures { AbandonOut tracker shard number out result.left result.out result.answer }
 {
     let after = tracker::abandon(tracker, shard, number);
-    let left = after.tracker;
-    let answer = after.answer;
-    NumberTold {
-        tracker: left,
-        out: done_out(answer, out),
-        answer: finish_number(answer),
-    }
+    to_store(after.tracker, after.answer.map(finish_number), out)
 }
 
-#[derive(Drop)]
-pub struct ProgressTold {
-    pub out: Progress,
-    pub answer: u32,
-}
-
-fn one_for(pending: bool) -> u64
-    ensures { result ≡ one_for pending }
-{
-    if pending { 1 } else { 0 }
-}
-
-pub fn checkpoint(tracker: Tracker, ordinal: u64, used: u64, out: Progress) -> ProgressTold
+// The checkpoint leaves the tracker alone, so nothing is left to store there.
+pub fn checkpoint(tracker: Tracker, ordinal: u64, used: u64, out: Progress) -> Stored<(), Progress>
     ensures { CheckpointOut tracker ordinal used out result.out result.answer }
 {
     let answer = tracker::checkpoint(tracker, ordinal, used);
-    match answer {
-        CheckpointAnswer::Progress {
-            ordinal: o,
-            offset: p,
-            sum: s,
-            limit: l,
-            pending: b,
-        } => ProgressTold {
-            out: Progress {
-                ordinal: o,
-                offset: p,
-                sum: s,
-                limit: l,
-                pending: one_for(b),
-            },
-            answer: 0,
-        },
-        CheckpointAnswer::Refused(refusal) => ProgressTold {
-            out: out,
-            answer: answers::number(refusal),
-        },
-    }
+    to_store((), answer.map(progress_told), out)
 }
 
-#[derive(Drop)]
-pub struct SumTold {
-    pub tracker: Tracker,
-    pub out: i64,
-    pub answer: u32,
-}
-
-pub fn drain(tracker: Tracker, limit: u64, out: i64) -> SumTold
-    ensures { DrainOut tracker limit out result.tracker result.out result.answer }
+pub fn drain(tracker: Tracker, limit: u64, out: i64) -> Stored<Tracker, i64>
+    ensures { DrainOut tracker limit out result.left result.out result.answer }
 {
     let after = tracker::drain(tracker, limit);
-    let left = after.tracker;
-    let answer = after.answer;
-    match answer {
-        DrainAnswer::Drained { sum: s } => SumTold {
-            tracker: left,
-            out: s,
-            answer: 0,
-        },
-        DrainAnswer::Refused(refusal) => SumTold {
-            tracker: left,
-            out: out,
-            answer: answers::number(refusal),
-        },
-    }
-}
-
-// A call that tells nothing but its number.
-#[derive(Drop)]
-pub struct StateTold {
-    pub tracker: Tracker,
-    pub answer: u32,
+    to_store(after.tracker, after.answer, out)
 }
 
 // Whatever stood there is given up.
-pub fn fresh(tracker: Tracker) -> StateTold
-    ensures { FreshOut result.tracker result.answer }
+pub fn fresh(tracker: Tracker) -> Stored<Tracker, ()>
+    ensures { FreshOut result.left result.answer }
 {
-    let new = tracker::fresh();
-    StateTold {
-        tracker: new,
-        answer: 0,
-    }
+    to_store(tracker::fresh(), Ok(()), ())
 }
 
-pub fn clear(tracker: Tracker) -> StateTold
-    ensures { ClearOut tracker result.tracker result.answer }
+pub fn clear(tracker: Tracker) -> Stored<Tracker, ()>
+    ensures { ClearOut tracker result.left result.answer }
 {
     let after = tracker::clear(tracker);
-    let left = after.tracker;
-    let answer = after.answer;
-    match answer {
-        ClearAnswer::Cleared => StateTold {
-            tracker: left,
-            answer: 0,
-        },
-        ClearAnswer::Refused(refusal) => StateTold {
-            tracker: left,
-            answer: answers::number(refusal),
-        },
-    }
-}
-
-#[derive(Drop)]
-pub struct SlotTold {
-    pub slot: Slot,
-    pub out: u64,
-    pub answer: u32,
+    to_store(after.tracker, after.answer, ())
 }
 
 // Of one slot, abandoned in place: 1 for Done and 0 for Stale. Nothing is refused.
-pub fn abandon_slot(slot: Slot, number: u64, out: u64) -> SlotTold
-    ensures { SlotOut slot number result.slot result.out result.answer }
+pub fn abandon_slot(slot: Slot, number: u64, out: u64) -> Stored<Slot, u64>
+    ensures { SlotOut slot number result.left result.out result.answer }
 {
     let kept = slots::abandon_kept(slot, number);
-    let left = kept.slot;
-    let answer = kept.answer;
-    match answer {
-        SlotAnswer::Done => SlotTold {
-            slot: left,
-            out: 1,
-            answer: 0,
-        },
-        SlotAnswer::Stale => SlotTold {
-            slot: left,
-            out: 0,
-            answer: 0,
-        },
-    }
+    to_store(kept.slot, Ok(finish_number(kept.answer)), out)
 }

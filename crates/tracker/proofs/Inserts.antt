@@ -1,63 +1,50 @@
--- A delta goes into its queue behind its equals: its place, what moves one place further, and the queue that results.
+-- A delta goes into its queue behind its equals: its place, and the queue that results.
 -- Assumes nothing.
 use mathlib.Core.Path.{◌≡◌, refl, sym, ap, ◌∙◌, subst}
+use mathlib.Core.Bool.{Bool, true, false, cond, not}
+use lib.Dec.{ltb}
 use mathlib.Core.List.{List, [], ◌∷◌}
-use Prim.Native.Nat.{ℕ, zero, suc, ◌+◌, ◌-◌, ◌*◌, ◌≤◌, ◌<◌}
+use Prim.Native.Nat.{ℕ, zero, suc, ◌+◌, ◌*◌, ◌≤◌, ◌<◌}
 use native.Mathlib.Nat.{add-zero}
 use native.Mathlib.Numerals.{add-one}
 use native.Mathlib.Omega.{arith}
-use native.Mathlib.Decide.{ℕ_discrete, dec_lt}
-use lib.ListN.{length, get_or, set, length-set}
+use native.Mathlib.Decide.{dec_lt}
+use lib.ListN.{length, get_or, set}
 use lib.Seq.{get_or-set_same, get_or-set_other}
 use lib.IntN.{ℤ, pos}
-use borrow.Author.Tests.{lt-ltb, le-ltb}
+use borrow.Author.Tests.{lt-ltb, le-ltb, ltb-true, ltb-false}
+use Rattle.std.specs.Prelude.{Some, None}
+use Rattle.std.specs.Option.{unwrap_or}
+use Rattle.std.specs.List.{position_or_len}
+use Rattle.std.proofs.lemmas.List.Sums.{prefix_len-le-length, fails_before_first, passes_at_first}
 use Rattle.tracker.specs.declared.Tracker.{Tracker}
 use Rattle.tracker.specs.State.{seg, Waiting, waiting_at, view, queue, behind_equals, inserted}
-use Rattle.tracker.specs.Inner.{run, Roomy, Placed, PutIn}
+use Rattle.tracker.specs.Inner.{HasRoom, QueueOf, place_behind, PutIn}
 use Rattle.tracker.proofs.Runs.{seg_ext}
-use Rattle.tracker.proofs.Views.{queue_is, run_of, run_ext, one_queue, waiting_eq}
+use Rattle.tracker.proofs.Views.{run, queue_is, run_of, run_ext, one_queue, waiting_eq, number_at}
 
--- ---- one place further, from the back on
+-- ---- the place
 
--- ys is xs with what stood at the places from i to count, counted from base, one place further
-pub record Raised (A : Type 0) (z : A) (xs ys : List A) (base count i : ℕ) : Type 0 where
-  pub long : length ys ≡ length xs
-  pub low : (p : ℕ) → p ≤ base + i → get_or ys p z ≡ get_or xs p z
-  pub moved : (j : ℕ) → i ≤ j → j < count → get_or ys (base + j + 1) z ≡ get_or xs (base + j) z
-  pub high : (p : ℕ) → base + count < p → get_or ys p z ≡ get_or xs p z
+-- none before it is larger, and the one that stands there is
+pub record Placed (numbers : List ℕ) (number place : ℕ) : Type 0 where
+  pub within : place ≤ length numbers
+  pub before : (j : ℕ) → j < place → get_or numbers j 0 ≤ number
+  pub larger : place < length numbers → number < get_or numbers place 0
 
-module _ {A : Type 0} (z : A) (xs : List A) (base count : ℕ) where
-  pub raised_start : Raised A z xs xs base count count
-  raised_start = record { long = refl; low = λ p h. refl; moved = λ j a b. absurd (omega arith); high = λ p h. refl }
-
-  moved_more : (ys : List A) (i : ℕ) → 0 < i → base + i < length xs → Raised A z xs ys base count i → (v : A) → v ≡ get_or ys (base + i - 1) z
-      → (j : ℕ) → i - 1 ≤ j → j < count → Dec (j + 1 ≡ i) → get_or (set ys (base + i) v) (base + j + 1) z ≡ get_or xs (base + j) z
-  moved_more ys i h0 hi r v ev j a b (yes e) =
-      ap (λ (q : ℕ). get_or (set ys (base + i) v) q z) {x = base + j + 1} {y = base + i} (omega arith)
-      ∙ get_or-set_same ys (base + i) v z (omega (arith, r.long)) ∙ ev ∙ r.low (base + i - 1) (omega arith)
-      ∙ ap (λ (q : ℕ). get_or xs q z) {x = base + i - 1} {y = base + j} (omega arith)
-  moved_more ys i h0 hi r v ev j a b (no ne) =
-      get_or-set_other ys (base + i) (base + j + 1) v z (λ q. ne (omega arith)) ∙ r.moved j (omega arith) b
-
-  pub raised_more : (ys : List A) (i : ℕ) (v : A) → 0 < i → i ≤ count → base + i < length xs → v ≡ get_or ys (base + i - 1) z → Raised A z xs ys base count i
-      → Raised A z xs (set ys (base + i) v) base count (i - 1)
-  raised_more ys i v h0 hk hi ev r = record {
-    long = length-set ys (base + i) v ∙ r.long;
-    low = λ p h. get_or-set_other ys (base + i) p v z (λ e. omega arith) ∙ r.low p (omega arith);
-    moved = λ j a b. moved_more ys i h0 hi r v ev j a b (ℕ_discrete (j + 1) i);
-    high = λ p h. get_or-set_other ys (base + i) p v z (λ e. omega arith) ∙ r.high p h;
-  }
-
-  -- x at the place that is left
-  pub put_in : (ys : List A) (place : ℕ) (x : A) → place ≤ count → base + count < length xs → Raised A z xs ys base count place
-      → PutIn A z xs (set ys (base + place) x) base count place x
-  put_in ys place x hp hk r = record {
-    long = length-set ys (base + place) x ∙ r.long;
-    low = λ p h. get_or-set_other ys (base + place) p x z (λ e. omega arith) ∙ r.low p (omega arith);
-    here = get_or-set_same ys (base + place) x z (omega (arith, r.long));
-    moved = λ j a b. get_or-set_other ys (base + place) (base + j + 1) x z (λ e. omega arith) ∙ r.moved j a b;
-    high = λ p h. get_or-set_other ys (base + place) p x z (λ e. omega arith) ∙ r.high p h;
-  }
+pub placed_behind : (numbers : List ℕ) (number : ℕ) → Placed numbers number (place_behind numbers number)
+placed_behind numbers number = rw first (record {
+  within = prefix_len-le-length _ numbers;
+  before = λ j h. ltb-false number _ (fails_before_first (λ (x : ℕ). ltb number x) numbers j 0 h);
+  larger = λ h. ltb-true number _ (passes_at_first (λ (x : ℕ). ltb number x) numbers 0 h);
+})
+  where
+    first : place_behind numbers number ≡ position_or_len (λ (x : ℕ). ltb number x) numbers
+    first = by (ltb (position_or_len (λ (x : ℕ). ltb number x) numbers) (length numbers)) refl
+      where
+        by : (b : Bool) → ltb (position_or_len (λ (x : ℕ). ltb number x) numbers) (length numbers) ≡ b
+            → unwrap_or (cond b (Some (position_or_len (λ (x : ℕ). ltb number x) numbers)) None) (length numbers) ≡ position_or_len (λ (x : ℕ). ltb number x) numbers
+        by true e = refl
+        by false e = omega (arith, ltb-false _ _ e, prefix_len-le-length (λ (x : ℕ). not (ltb number x)) numbers)
 
 -- ---- a run that has one more
 
@@ -87,36 +74,38 @@ behind_run w f g a (suc p) (suc n) h le lt lo here hi =
 
 -- ---- the queue that results
 
-module _ (t : Tracker) (rm : Roomy t) (long_l : length t.lengths ≡ 16) (s : ℕ) (hs : s < 16) (hk : get_or t.lengths s 0 < 32) (n : ℕ) (d : ℤ) (p : ℕ)
-    (pl : Placed t.numbers (s * 32) (get_or t.lengths s 0) n p) (ys : List ℕ) (zs : List ℤ)
-    (pn : PutIn ℕ 0 t.numbers ys (s * 32) (get_or t.lengths s 0) p n) (pd : PutIn ℤ (pos 0) t.deltas zs (s * 32) (get_or t.lengths s 0) p d) where
+module _ (t : Tracker) (s : ℕ) (hr : HasRoom t s) (long_l : length t.lengths ≡ 16) (n : ℕ) (d : ℤ) {ns : List ℕ} {ds : List ℤ} (q : QueueOf t s ns ds)
+    (place : ℕ) (placed : Placed ns n place) where
   abbrev count : ℕ
   count = get_or t.lengths s 0
 
-  abbrev put : Tracker
-  put = record { slots = t.slots; numbers = ys; deltas = zs; lengths = set t.lengths s (count + 1); next = t.next }
+  module _ (ys : List ℕ) (zs : List ℤ) (pn : PutIn t.numbers ys (s * 32 + place) (s * 32 + count) n) (pd : PutIn t.deltas zs (s * 32 + place) (s * 32 + count) d) where
+    abbrev put : Tracker
+    put = record { slots = t.slots; numbers = ys; deltas = zs; lengths = set t.lengths s (count + 1); next = t.next }
 
-  keeps : {A : Type 0} (z : A) (xs xs' : List A) (x : A) → PutIn A z xs xs' (s * 32) count p x
-      → (i j : ℕ) → (i ≡ s → ⊥) → j < 32 → Dec (i < s) → get_or xs' (i * 32 + j) z ≡ get_or xs (i * 32 + j) z
-  keeps z xs xs' x r i j ne hj (yes lt) = r.low (i * 32 + j) (omega arith)
-  keeps z xs xs' x r i j ne hj (no ge) = r.high (i * 32 + j) (omega arith)
+    keeps : {A : Type 0} (z : A) (xs xs' : List A) (x : A) → PutIn xs xs' (s * 32 + place) (s * 32 + count) x
+        → (i j : ℕ) → (i ≡ s → ⊥) → j < 32 → Dec (i < s) → get_or xs' (i * 32 + j) z ≡ get_or xs (i * 32 + j) z
+    keeps z xs xs' x r i j ne hj (yes lt) = r.low (i * 32 + j) z (omega arith)
+    keeps z xs xs' x r i j ne hj (no ge) = r.high (i * 32 + j) z (omega (arith, hr.free))
 
-  others : (i : ℕ) → i < 16 → (i ≡ s → ⊥) → run_of put i ≡ run_of t i
-  others i hi ne =
-      ap (run ys zs (i * 32)) (get_or-set_other t.lengths s i (count + 1) 0 ne)
-      ∙ run_ext t put (i * 32) (i * 32) (get_or t.lengths i 0)
-      (λ j hj. keeps 0 t.numbers ys n pn i j ne (omega (arith, rm.room i hi)) (dec_lt i s))
-      (λ j hj. keeps (pos 0) t.deltas zs d pd i j ne (omega (arith, rm.room i hi)) (dec_lt i s))
+    others : (i : ℕ) → i < 16 → (i ≡ s → ⊥) → run_of put i ≡ run_of t i
+    others i hi ne =
+        ap (run ys zs (i * 32)) (get_or-set_other t.lengths s i (count + 1) 0 ne)
+        ∙ run_ext t put (i * 32) (i * 32) (get_or t.lengths i 0)
+        (λ j hj. keeps 0 t.numbers ys n pn i j ne (omega (arith, hr.roomy.room i hi)) (dec_lt i s))
+        (λ j hj. keeps (pos 0) t.deltas zs d pd i j ne (omega (arith, hr.roomy.room i hi)) (dec_lt i s))
 
-  here : run_of put s ≡ behind_equals (record { number = n; delta = d }) (queue (view t) s)
-  here =
-      ap (run ys zs (s * 32)) (get_or-set_same t.lengths s (count + 1) 0 (omega arith) ∙ add-one count)
-      ∙ sym (ap (behind_equals (record { number = n; delta = d })) (queue_is t s hs)
-      ∙ behind_run (record { number = n; delta = d }) (waiting_at t.numbers t.deltas) (waiting_at ys zs) (s * 32) p count pl.within pl.before pl.larger
-      (λ j hj. waiting_eq (pn.low (s * 32 + j) (omega arith)) (pd.low (s * 32 + j) (omega arith)))
-      (waiting_eq pn.here pd.here)
-      (λ j a b. waiting_eq (pn.moved j a b) (pd.moved j a b)))
+    here : run_of put s ≡ behind_equals (record { number = n; delta = d }) (queue (view t) s)
+    here =
+        ap (run ys zs (s * 32)) (get_or-set_same t.lengths s (count + 1) 0 (omega (arith, hr.on_shard)) ∙ add-one count)
+        ∙ sym (ap (behind_equals (record { number = n; delta = d })) (queue_is t s hr.on_shard)
+        ∙ behind_run (record { number = n; delta = d }) (waiting_at t.numbers t.deltas) (waiting_at ys zs) (s * 32) place count (omega (arith, placed.within, q.count))
+        (λ j hj. rw (← (number_at t s hr.on_shard q j (omega (arith, placed.within, q.count)))) (placed.before j hj))
+        (λ hp. rw (← (number_at t s hr.on_shard q place hp)) (placed.larger (omega (arith, q.count))))
+        (λ j hj. waiting_eq (pn.low (s * 32 + j) 0 (omega arith)) (pd.low (s * 32 + j) (pos 0) (omega arith)))
+        (waiting_eq (pn.here 0) (pd.here (pos 0)))
+        (λ j a b. waiting_eq (pn.moved (s * 32 + j) 0 (omega arith) (omega arith)) (pd.moved (s * 32 + j) (pos 0) (omega arith) (omega arith))))
 
-  pub insert_law : view put ≡ inserted (view t) s n d
-  unfolding inserted view
-  insert_law = one_queue t put s _ hs refl refl others here
+    pub insert_law : view put ≡ inserted (view t) s n d
+    unfolding inserted view
+    insert_law = one_queue t put s _ hr.on_shard refl refl others here

@@ -55,6 +55,10 @@ module _ (z r : ℤ) (hz : nat_abs z ≤ 2 ^ 19) (hr : nat_abs r ≤ 2 ^ 19) whe
   pub sum_reads : to_z w64 (of_z w64 (z +ℤ to_z w64 (of_z w64 r))) ≡ z +ℤ r
   sum_reads = rw (reads64 r r_small) (reads64 (z +ℤ r) both)
 
+-- an i8 is small
+pub small8 : (x : ℤ) → SFits w8 x → nat_abs x ≤ 128
+small8 x h = omega (arith, abs_mag x, h.sfits)
+
 -- ---- a test of an i8 against 0 is a test of its bits
 
 pub bits_zero : (d : ℤ) → SFits w8 d → of_z w8 d ≡ 0 → d ≡ pos 0

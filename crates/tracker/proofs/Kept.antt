@@ -12,13 +12,13 @@ use lib.IntN.{ℤ}
 use lib.Dec.{ltb, leb, eqb}
 use borrow.Author.Tests.{lt-ltb, le-leb, ltb-true, leb-true, eqb-true, eqb-false, ne_eqb}
 use Rattle.answers.specs.Answers.{accepted, unless_refused, afterwards}
+use Rattle.std.proofs.Math.Bool.{or-true}
+use Rattle.std.proofs.lemmas.Bool.{and_parts}
 use Rattle.tracker.specs.declared.Slot.{Slot}
 use Rattle.tracker.specs.declared.Tracker.{Tracker}
-use Rattle.tracker.specs.declared.AfterReserve.{AfterReserve}
-use Rattle.tracker.specs.declared.AfterRecord.{AfterRecord}
-use Rattle.tracker.specs.declared.AfterFinish.{AfterFinish}
-use Rattle.tracker.specs.declared.AfterDrain.{AfterDrain}
-use Rattle.tracker.specs.declared.AfterClear.{AfterClear}
+use Rattle.tracker.specs.declared.After.{After}
+use Rattle.tracker.specs.declared.Reserved.{Reserved}
+use Rattle.tracker.specs.declared.Finish.{Finish}
 use Rattle.tracker.specs.State.{Waiting, State, view, fresh_state, slot_of, queue, places, idle, with_next, with_slot, with_queue, joined, inserted}
 use Rattle.tracker.specs.Sound.{every, ascends, sound, shard_sound}
 use Rattle.tracker.specs.Sums.{count_front, past_front}
@@ -28,7 +28,7 @@ use Rattle.tracker.specs.Finishing.{finish_refusal, matches, made_idle, is_zero,
 use Rattle.tracker.specs.Outcome.{sound_refusal}
 use Rattle.tracker.specs.Draining.{drained, DrainMet}
 use Rattle.tracker.specs.Clearing.{cleared, ClearMet}
-use Rattle.tracker.proofs.Runs.{and_left, and_right, all_at, all_true, every_snoc, every_drop, every_weaker}
+use Rattle.tracker.proofs.Runs.{all_at, all_true, every_snoc, every_drop, every_weaker}
 use Rattle.tracker.proofs.Ascents.{ascends_snoc, ascends_drop, ascends_behind, every_behind, length_behind}
 use Rattle.tracker.proofs.Reserves.{reserve_free}
 use Rattle.tracker.proofs.Records.{record_free}
@@ -49,11 +49,11 @@ head_of m k = leb (length (queue m k) + places (slot_of m k).number) 32 && (eqb 
 pub sound_facts : (m : State) → sound m ≡ true → Sound m
 unfolding sound shard_sound
 sound_facts m e = record {
-  live = leb-true 1 m.next (and_left _ _ e);
-  room = λ k h. leb-true _ _ (and_left _ _ (and_left _ _ (and_left _ _ (at k h))));
-  slot_below = λ k h. below (slot_of m k).number (and_right (leb (length (queue m k) + places (slot_of m k).number) 32) _ (and_left _ _ (and_left _ _ (at k h))));
-  queue_below = λ k h. and_right (head_of m k) _ (and_left _ _ (at k h));
-  ascending = λ k h. and_right (head_of m k && every (λ (w : Waiting). ltb w.number m.next) (queue m k)) _ (at k h);
+  live = leb-true 1 m.next ((and_parts _ _ e).0);
+  room = λ k h. leb-true _ _ ((and_parts _ _ ((and_parts _ _ ((and_parts _ _ (at k h)).0)).0)).0);
+  slot_below = λ k h. below (slot_of m k).number ((and_parts (leb (length (queue m k) + places (slot_of m k).number) 32) _ ((and_parts _ _ ((and_parts _ _ (at k h)).0)).0)).1);
+  queue_below = λ k h. (and_parts (head_of m k) _ ((and_parts _ _ (at k h)).0)).1;
+  ascending = λ k h. (and_parts (head_of m k && every (λ (w : Waiting). ltb w.number m.next) (queue m k)) _ (at k h)).1;
 }
   where
     -- an idle slot's number is 0, and the next number is at least 1
@@ -61,15 +61,11 @@ sound_facts m e = record {
     below number h = by (eqb number 0) refl h
       where
         by : (b : Bool) → eqb number 0 ≡ b → b || ltb number m.next ≡ true → number < m.next
-        by true z g = let live = leb-true 1 m.next (and_left _ _ e) in omega (arith, eqb-true number 0 z)
+        by true z g = let live = leb-true 1 m.next ((and_parts _ _ e).0) in omega (arith, eqb-true number 0 z)
         by false z g = ltb-true _ _ g
 
     at : (k : ℕ) → k < 16 → shard_sound m k ≡ true
-    at k h = all_at (shard_sound m) 16 (and_right (leb 1 m.next) _ e) k h
-
-or_true : (b : Bool) → b || true ≡ true
-or_true true = refl
-or_true false = refl
+    at k h = all_at (shard_sound m) 16 ((and_parts (leb 1 m.next) _ e).1) k h
 
 pub facts_sound : (m : State) → Sound m → sound m ≡ true
 unfolding sound shard_sound
@@ -77,7 +73,7 @@ facts_sound m f = rw (le-leb 1 m.next f.live) (all_true (shard_sound m) 16 one)
   where
     one : (k : ℕ) → k < 16 → shard_sound m k ≡ true
     one k h =
-        rw (le-leb (length (queue m k) + places (slot_of m k).number) 32 (f.room k h), lt-ltb (slot_of m k).number m.next (f.slot_below k h), or_true (eqb (slot_of m k).number 0), f.queue_below k h)
+        rw (le-leb (length (queue m k) + places (slot_of m k).number) 32 (f.room k h), lt-ltb (slot_of m k).number m.next (f.slot_below k h), or-true (eqb (slot_of m k).number 0), f.queue_below k h)
         (f.ascending k h)
 
 below_more : (n n' : ℕ) → n ≤ n' → (l : List Waiting) → every (λ (w : Waiting). ltb w.number n) l ≡ true → every (λ (w : Waiting). ltb w.number n') l ≡ true
@@ -206,7 +202,7 @@ module _ (m : State) (sh : Shaped m) (f : Sound m) where
         (omega (arith, f.slot_below shard hs, held)) room)
       where
         held : (slot_of m shard).number ≡ number
-        held = eqb-true _ _ (and_right (not (eqb number 0)) (eqb (slot_of m shard).number number) e)
+        held = eqb-true _ _ ((and_parts (not (eqb number 0)) (eqb (slot_of m shard).number number) e).1)
 
         opens : (b : Bool) → eqb number 0 ≡ b → not b && eqb (slot_of m shard).number number ≡ true → places (slot_of m shard).number ≡ 1
         opens true eb h = let z : ◌≡◌ {A = ℕ} 0 1 = cc in absurd (omega arith)
@@ -260,7 +256,7 @@ module _ (t : Tracker) (long : length t.slots ≡ 16) (so : sound (view t) ≡ t
   facts : Sound (view t)
   facts = sound_facts (view t) so
 
-  pub reserve_keeps : (shard ordinal used capacity : ℕ) (sealed : Bool) (len : ℕ) (r : AfterReserve) → ReserveMet t shard ordinal used capacity sealed len r
+  pub reserve_keeps : (shard ordinal used capacity : ℕ) (sealed : Bool) (len : ℕ) (r : After Reserved) → ReserveMet t shard ordinal used capacity sealed len r
       → sound (view r.tracker) ≡ true
   reserve_keeps shard ordinal used capacity sealed len r met =
       ap sound met.state
@@ -268,27 +264,27 @@ module _ (t : Tracker) (long : length t.slots ≡ 16) (so : sound (view t) ≡ t
       (λ e. let free = reserve_free (sound (view t)) shard (view t).next _ used capacity sealed len e in
       facts_sound _ (reserved_sound (view t) shaped facts shard ordinal used free.on_shard free.room))
 
-  pub record_keeps : (shard : ℕ) (delta : ℤ) (r : AfterRecord) → RecordMet t shard delta r → sound (view r.tracker) ≡ true
+  pub record_keeps : (shard : ℕ) (delta : ℤ) (r : After ℕ) → RecordMet t shard delta r → sound (view r.tracker) ≡ true
   record_keeps shard delta r met =
       ap sound met.state
       ∙ sound_after (record_refusal (view t) shard) _ (view t) (recorded (view t) shard delta) so
       (λ e. let free = record_free (sound (view t)) shard (view t).next _ _ e in
       facts_sound _ (recorded_sound (view t) shaped facts shard delta free.on_shard free.room))
 
-  finish_keeps : (shard number : ℕ) (new : State) (r : AfterFinish) → (shard < 16 → Sound new) → FinishMet t shard number new r → sound (view r.tracker) ≡ true
+  finish_keeps : (shard number : ℕ) (new : State) (r : After Finish) → (shard < 16 → Sound new) → FinishMet t shard number new r → sound (view r.tracker) ≡ true
   finish_keeps shard number new r sn met =
       ap sound met.met.state
       ∙ sound_after (finish_refusal (view t) shard) _ (view t) new so (λ e. facts_sound new (sn (finish_free (sound (view t)) shard e).on_shard))
 
-  pub complete_keeps : (shard number : ℕ) (delta : ℤ) (r : AfterFinish) → CompleteMet t shard number delta r → sound (view r.tracker) ≡ true
+  pub complete_keeps : (shard number : ℕ) (delta : ℤ) (r : After Finish) → CompleteMet t shard number delta r → sound (view r.tracker) ≡ true
   complete_keeps shard number delta r = finish_keeps shard number _ r (λ hs. completed_sound (view t) shaped facts shard number hs delta)
 
-  pub abandon_keeps : (shard number : ℕ) (r : AfterFinish) → AbandonMet t shard number r → sound (view r.tracker) ≡ true
+  pub abandon_keeps : (shard number : ℕ) (r : After Finish) → AbandonMet t shard number r → sound (view r.tracker) ≡ true
   abandon_keeps shard number r = finish_keeps shard number _ r (λ hs. abandoned_sound (view t) shaped facts shard number hs)
 
-  pub drain_keeps : (limit : ℕ) (r : AfterDrain) → DrainMet t limit r → sound (view r.tracker) ≡ true
+  pub drain_keeps : (limit : ℕ) (r : After ℤ) → DrainMet t limit r → sound (view r.tracker) ≡ true
   drain_keeps limit r met =
       ap sound met.state ∙ sound_after (sound_refusal (view t)) _ (view t) (drained (view t) limit) so (λ e. facts_sound _ (drained_sound (view t) shaped facts limit))
 
-  pub clear_keeps : (r : AfterClear) → ClearMet t r → sound (view r.tracker) ≡ true
+  pub clear_keeps : (r : After (Unit {0})) → ClearMet t r → sound (view r.tracker) ≡ true
   clear_keeps r met = ap sound met.state ∙ sound_after (sound_refusal (view t)) _ (view t) (cleared (view t)) so (λ e. cleared_sound (view t) shaped facts)

@@ -5,20 +5,14 @@ use mathlib.Core.Path.{◌≡◌, refl, sym, ap, ◌∙◌}
 use mathlib.Core.Bool.{true, false}
 use mathlib.Core.List.{[]}
 use native.Mathlib.Omega.{arith}
-use Rattle.answers.specs.Numbers.{number_of, number_of_verdict}
+use Rattle.answers.specs.Numbers.{number_of}
 use Rattle.answers.specs.Answers.{Said, accepted, refused, unless_refused}
 use Rattle.answers.specs.declared.Refusal.{Refusal}
-use Rattle.answers.specs.declared.Verdict.{Verdict}
-use Rattle.answers.specs.declared.Verdict.TheVariants.{Accepted, Refused}
 use Rattle.answers.proofs.Cases.{refusal_refuses}
 use Rattle.tracker.specs.declared.Tracker.{Tracker}
 use Rattle.tracker.specs.State.{State, view}
 use Rattle.tracker.specs.Sound.{sound}
 use Rattle.tracker.specs.Outcome.{Met, sound_refusal}
-
--- an accepting verdict: no test held
-pub verdict_none : (n : ℕ) (v : Verdict) → number_of_verdict v ≡ n → v ≡ Accepted → n ≡ 0
-verdict_none n v e ea = sym e ∙ ap number_of_verdict ea
 
 module _ {A : Type 0} (t : Tracker) (new : State) where
   -- a refusal leaves the very same value
@@ -33,16 +27,12 @@ module _ {A : Type 0} (t : Tracker) (new : State) where
   }
 
   -- by a verdict whose number is that of the table
-  module _ (n : ℕ) (answer : Said A) (v : Verdict) (e : number_of_verdict v ≡ n) where
-    pub verdict_refuses : (r : Refusal) → v ≡ Refused r → Met A (unless_refused n answer) (refused (number_of r) []) t t new
-    verdict_refuses r er =
-        refuses (unless_refused n answer) (number_of r)
-        (ap (λ (k : ℕ). unless_refused k answer) (sym e ∙ ap number_of_verdict er) ∙ refusal_refuses r answer)
+  pub verdict_refuses : (n : ℕ) (answer : Said A) (r : Refusal) → number_of r ≡ n → Met A (unless_refused n answer) (refused (number_of r) []) t t new
+  verdict_refuses n answer r e =
+      refuses (unless_refused n answer) (number_of r) (ap (λ (k : ℕ). unless_refused k answer) (sym e) ∙ refusal_refuses r answer)
 
-  pub verdict_accepts : (n : ℕ) (a : A) (v : Verdict) → number_of_verdict v ≡ n → v ≡ Accepted → (u : Tracker) → view u ≡ new
-      → Met A (unless_refused n (accepted a)) (accepted a) t u new
-  verdict_accepts n a v e ea u h =
-      accepts (unless_refused n (accepted a)) a u (ap (λ (k : ℕ). unless_refused k (accepted a)) (verdict_none n v e ea)) h
+  pub verdict_accepts : (n : ℕ) (a : A) → 0 ≡ n → (u : Tracker) → view u ≡ new → Met A (unless_refused n (accepted a)) (accepted a) t u new
+  verdict_accepts n a e u h = accepts (unless_refused n (accepted a)) a u (ap (λ (k : ℕ). unless_refused k (accepted a)) (sym e)) h
 
   -- by the test of soundness
   pub unsound_refuses : (answer : Said A) → sound (view t) ≡ false → Met A (unless_refused (sound_refusal (view t)) answer) (refused 28 []) t t new

@@ -1,38 +1,25 @@
 -- Reserve: what it knows once no test refused it, and what it leaves.
 -- Assumes nothing.
-use Prim.Native.Nat.{ℕ, ◌+◌, ◌-◌, ◌%◌, ◌^◌, ◌≤◌, ◌<◌}
+use Prim.Native.Nat.{ℕ, ◌+◌, ◌-◌, ◌%◌, ◌^◌}
 use mathlib.Core.Path.{◌≡◌, refl, ap, ◌∙◌}
-use mathlib.Core.Bool.{Bool, true, false, not, ◌||◌}
+use mathlib.Core.Bool.{Bool, not, ◌||◌}
 use native.Mathlib.Omega.{arith}
 use lib.ListN.{length, get_or, set}
 use lib.Dec.{ltb, eqb}
 use borrow.Author.Tests.{ltb-false, eqb-false, not-false}
+use Rattle.std.proofs.lemmas.Bool.{or_parts}
 use Rattle.answers.specs.Answers.{first_of}
-use Rattle.answers.specs.Numbers.{number_of_verdict}
+use Rattle.answers.specs.Numbers.{number_of}
+use Rattle.std.specs.Prelude.{Ok, Err}
 use Rattle.answers.specs.declared.Refusal.{Refusal}
-use Rattle.answers.specs.declared.Verdict.{Verdict}
-use Rattle.answers.specs.declared.Verdict.TheVariants.{Accepted, Refused as VRefused}
 use Rattle.answers.proofs.Orders.{first_passed}
 use Rattle.tracker.specs.declared.Tracker.{Tracker}
-use Rattle.tracker.specs.declared.ReserveAnswer.TheVariants.{Reserved, Refused}
 use Rattle.tracker.specs.State.{view}
 use Rattle.tracker.specs.Sound.{sound}
+use Rattle.tracker.specs.Inner.{ReserveFree}
 use Rattle.tracker.specs.Reserving.{reserve_tests, reserve_refusal, reserved, ReserveMet}
 use Rattle.tracker.proofs.Views.{waiting_is}
-use Rattle.tracker.proofs.Outcomes.{verdict_none, verdict_refuses, verdict_accepts}
-
--- no test of reserve holds
-pub record ReserveFree (isSound : Bool) (shard next waiting used capacity len : ℕ) : Type 0 where
-  pub soundness : isSound ≡ true
-  pub on_shard : shard < 16
-  pub numbers_left : next ≡ 2 ^ 64 - 1 → ⊥
-  pub room : waiting ≡ 32 → ⊥
-  pub small : capacity ≤ 268435456
-  pub fits : used + len ≤ capacity
-
-or_right : (a b : Bool) → a || b ≡ false → b ≡ false
-or_right true b e = let z : ◌≡◌ {A = ℕ} 0 1 = cc in absurd (omega arith)
-or_right false b e = e
+use Rattle.tracker.proofs.Outcomes.{verdict_refuses, verdict_accepts}
 
 pub reserve_free : (isSound : Bool) (shard next waiting used capacity : ℕ) (sealed : Bool) (len : ℕ)
     → first_of (reserve_tests isSound shard next waiting used capacity sealed len) ≡ 0 → ReserveFree isSound shard next waiting used capacity len
@@ -51,34 +38,32 @@ reserve_free isSound shard next waiting used capacity sealed len e =
       numbers_left = eqb-false next (2 ^ 64 - 1) t16.0;
       room = eqb-false waiting 32 t15.0;
       small = ltb-false 268435456 capacity t3.0;
-      fits = ltb-false capacity (used + len) (or_right sealed _ t13.0);
+      fits = ltb-false capacity (used + len) (or_parts sealed _ t13.0).1;
     }
 
-module _ (t : Tracker) (shard ordinal used capacity : ℕ) (sealed : Bool) (len : ℕ) (long : length t.lengths ≡ 16) (s : Bool) (es : s ≡ sound (view t))
-    (w : ℕ) (ew : w ≡ get_or t.lengths shard 0) (v : Verdict) (ev : number_of_verdict v ≡ first_of (reserve_tests s shard t.next w used capacity sealed len)) where
-  number_is : number_of_verdict v ≡ reserve_refusal (view t) shard used capacity sealed len
+module _ (t : Tracker) (shard ordinal used capacity : ℕ) (sealed : Bool) (len : ℕ) (long : length t.lengths ≡ 16) {s : Bool} (es : s ≡ sound (view t))
+    {w : ℕ} (ew : w ≡ get_or t.lengths shard 0) where
+  number_is : {n : ℕ} → n ≡ first_of (reserve_tests s shard t.next w used capacity sealed len) → n ≡ reserve_refusal (view t) shard used capacity sealed len
   unfolding view
-  number_is =
-      ev ∙ ap (λ (b : Bool). first_of (reserve_tests b shard t.next w used capacity sealed len)) es
+  number_is e =
+      e ∙ ap (λ (b : Bool). first_of (reserve_tests b shard t.next w used capacity sealed len)) es
       ∙ ap (λ (k : ℕ). first_of (reserve_tests (sound (view t)) shard t.next k used capacity sealed len)) (ew ∙ waiting_is t shard long)
 
-  pub reserve_refused : (r : Refusal) → v ≡ VRefused r → ReserveMet t shard ordinal used capacity sealed len (record { tracker = t; answer = Refused r })
-  reserve_refused r e = verdict_refuses t (reserved (view t) shard ordinal used) (reserve_refusal (view t) shard used capacity sealed len) _ v number_is r e
+  pub reserve_refused : (r : Refusal) → number_of r ≡ first_of (reserve_tests s shard t.next w used capacity sealed len)
+      → ReserveMet t shard ordinal used capacity sealed len (record { tracker = t; answer = Err r })
+  reserve_refused r e = verdict_refuses t (reserved (view t) shard ordinal used) (reserve_refusal (view t) shard used capacity sealed len) _ r (number_is e)
 
-  module _ (e : v ≡ Accepted) where
-    pub free : ReserveFree s shard t.next w used capacity len
-    free = reserve_free s shard t.next w used capacity sealed len (verdict_none _ v ev e)
-
-    pub reserve_accepted : ReserveMet t shard ordinal used capacity sealed len
-        (record {
-          tracker = record {
-            slots = set t.slots shard (record { number = t.next; ordinal = ordinal; offset = used });
-            numbers = t.numbers;
-            deltas = t.deltas;
-            lengths = t.lengths;
-            next = t.next + 1;
-          };
-          answer = Reserved t.next used (used + len);
-        })
-    unfolding view reserved
-    reserve_accepted = verdict_accepts t (reserved (view t) shard ordinal used) _ _ v number_is e _ refl
+  pub reserve_accepted : 0 ≡ first_of (reserve_tests s shard t.next w used capacity sealed len)
+      → ReserveMet t shard ordinal used capacity sealed len
+      (record {
+        tracker = record {
+          slots = set t.slots shard (record { number = t.next; ordinal = ordinal; offset = used });
+          numbers = t.numbers;
+          deltas = t.deltas;
+          lengths = t.lengths;
+          next = t.next + 1;
+        };
+        answer = Ok (record { number = t.next; place = used; used = used + len });
+      })
+  unfolding view reserved
+  reserve_accepted e = verdict_accepts t (reserved (view t) shard ordinal used) _ _ (number_is e) _ refl

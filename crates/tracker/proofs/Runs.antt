@@ -1,27 +1,17 @@
 -- Laws of `seg`, a run of values, and of tests over runs.
 -- Assumes nothing.
 use mathlib.Core.Path.{◌≡◌, refl, sym, ap, ◌∙◌}
-use mathlib.Core.Bool.{Bool, true, false, ◌&&◌, false≢true}
+use mathlib.Core.Bool.{Bool, true, false, ◌&&◌}
 use mathlib.Core.List.{List, [], ◌∷◌, ◌++◌}
 use Prim.Native.Nat.{ℕ, zero, suc, ◌+◌, ◌-◌, ◌≤◌, ◌<◌}
 use native.Mathlib.Nat.{add-zero, sub-zero}
 use native.Mathlib.Decide.{ℕ_discrete}
 use native.Mathlib.Omega.{arith}
 use lib.ListN.{length, get_or, set, drop}
+use Rattle.std.proofs.Math.Bool.{and-true, and_assoc}
+use Rattle.std.proofs.lemmas.Bool.{and_parts, and_right}
 use Rattle.tracker.specs.State.{seg}
 use Rattle.tracker.specs.Sound.{every, all_below}
-
-pub and_left : (b x : Bool) → b && x ≡ true → b ≡ true
-and_left true x e = refl
-and_left false x e = e
-
-pub and_right : (b x : Bool) → b && x ≡ true → x ≡ true
-and_right true x e = e
-and_right false x e = absurd (false≢true e)
-
-pub and_false : (b : Bool) {x : Bool} → x ≡ false → b && x ≡ false
-and_false true e = e
-and_false false e = refl
 
 module _ {A : Type 0} where
   pub length_seg : (f : ℕ → A) (a n : ℕ) → length (seg f a n) ≡ n
@@ -75,16 +65,8 @@ module _ {A : Type 0} where
       ∙ ap (λ (i : ℕ). set (seg f (suc a) n) s (g i)) (omega arith))
 
   pub every_snoc : (p : A → Bool) (l : List A) (x : A) → every p (l ++ (x ∷ [])) ≡ every p l && p x
-  every_snoc p [] x = and_true (p x)
-    where
-      and_true : (b : Bool) → b && true ≡ b
-      and_true true = refl
-      and_true false = refl
-  every_snoc p (y ∷ l) x = ap (λ (b : Bool). p y && b) (every_snoc p l x) ∙ regroup (p y) (every p l) (p x)
-    where
-      regroup : (a b c : Bool) → a && (b && c) ≡ (a && b) && c
-      regroup true b c = refl
-      regroup false b c = refl
+  every_snoc p [] x = and-true (p x)
+  every_snoc p (y ∷ l) x = ap (λ (b : Bool). p y && b) (every_snoc p l x) ∙ sym (and_assoc (p y) (every p l) (p x))
 
   -- a test of each element of a run, by its places
   pub every_all : (p : A → Bool) (f : ℕ → A) (a n : ℕ) → every p (seg f a n) ≡ all_below (λ (j : ℕ). p (f (a + j))) n
@@ -95,11 +77,11 @@ module _ {A : Type 0} where
   pub every_drop : (p : A → Bool) (n : ℕ) (l : List A) → every p l ≡ true → every p (drop n l) ≡ true
   every_drop p zero l e = e
   every_drop p (suc n) [] e = e
-  every_drop p (suc n) (x ∷ l) e = every_drop p n l (and_right (p x) (every p l) e)
+  every_drop p (suc n) (x ∷ l) e = every_drop p n l ((and_parts (p x) (every p l) e).1)
 
   pub every_weaker : (p q : A → Bool) → ((x : A) → p x ≡ true → q x ≡ true) → (l : List A) → every p l ≡ true → every q l ≡ true
   every_weaker p q f [] e = refl
-  every_weaker p q f (x ∷ l) e = rw (f x (and_left (p x) _ e)) (every_weaker p q f l (and_right (p x) (every p l) e))
+  every_weaker p q f (x ∷ l) e = rw (f x ((and_parts (p x) _ e).0)) (every_weaker p q f l ((and_parts (p x) (every p l) e).1))
 
 -- ---- a test of each number below n
 
@@ -108,7 +90,7 @@ all_false f zero i h e = absurd (omega arith)
 all_false f (suc n) i h e = by (λ p. all_false f n i p e) (ℕ_discrete i n)
   where
     by : (i < n → all_below f n ≡ false) → Dec (i ≡ n) → all_below f n && f n ≡ false
-    by r (yes p) = and_false (all_below f n) (ap f (sym p) ∙ e)
+    by r (yes p) = and_right (all_below f n) _ (ap f (sym p) ∙ e)
     by r (no q) = ap (λ (b : Bool). b && f n) (r (omega arith))
 
 pub all_true : (f : ℕ → Bool) (n : ℕ) → ((i : ℕ) → i < n → f i ≡ true) → all_below f n ≡ true
@@ -117,10 +99,10 @@ all_true f (suc n) h = rw (all_true f n (λ i p. h i (omega arith))) (h n (omega
 
 pub all_at : (f : ℕ → Bool) (n : ℕ) → all_below f n ≡ true → (i : ℕ) → i < n → f i ≡ true
 all_at f zero e i h = absurd (omega arith)
-all_at f (suc n) e i h = by (all_at f n (and_left (all_below f n) (f n) e) i) (ℕ_discrete i n)
+all_at f (suc n) e i h = by (all_at f n ((and_parts (all_below f n) (f n) e).0) i) (ℕ_discrete i n)
   where
     by : (i < n → f i ≡ true) → Dec (i ≡ n) → f i ≡ true
-    by r (yes p) = ap f p ∙ and_right (all_below f n) (f n) e
+    by r (yes p) = ap f p ∙ (and_parts (all_below f n) (f n) e).1
     by r (no q) = r (omega arith)
 
 -- two tests that agree below n

@@ -3,67 +3,63 @@
 use Prim.Native.Nat.{ℕ}
 use mathlib.Core.Path.{◌≡◌, refl, ap}
 use native.Mathlib.Omega.{arith}
+use lib.IntN.{ℤ}
+use Rattle.std.specs.Prelude.{Result, Ok, Err}
+use Rattle.answers.specs.Answers.{said}
+use Rattle.answers.specs.declared.Refusal.{Refusal}
 use Rattle.answers.proofs.Cases.{same_number}
-use Rattle.tracker.specs.declared.ReserveAnswer.{ReserveAnswer}
-use Rattle.tracker.specs.declared.ReserveAnswer.TheVariants.{Reserved, Refused as ReserveRefused}
-use Rattle.tracker.specs.declared.RecordAnswer.{RecordAnswer}
-use Rattle.tracker.specs.declared.RecordAnswer.TheVariants.{Recorded, Refused as RecordRefused}
-use Rattle.tracker.specs.declared.FinishAnswer.{FinishAnswer}
-use Rattle.tracker.specs.declared.FinishAnswer.TheVariants.{Done, Stale, Refused as FinishRefused}
-use Rattle.tracker.specs.declared.CheckpointAnswer.{CheckpointAnswer}
-use Rattle.tracker.specs.declared.CheckpointAnswer.TheVariants.{Progress, Refused as CheckpointRefused}
-use Rattle.tracker.specs.declared.DrainAnswer.{DrainAnswer}
-use Rattle.tracker.specs.declared.DrainAnswer.TheVariants.{Drained, Refused as DrainRefused}
-use Rattle.tracker.specs.declared.ClearAnswer.{ClearAnswer}
-use Rattle.tracker.specs.declared.ClearAnswer.TheVariants.{Cleared, Refused as ClearRefused}
-use Rattle.tracker.specs.Reserving.{Granted, said_reserve}
+use Rattle.tracker.specs.declared.Reserved.{Reserved}
+use Rattle.tracker.specs.declared.Finish.{Finish}
+use Rattle.tracker.specs.declared.Finish.TheVariants.{Done, Stale}
+use Rattle.tracker.specs.declared.Progress.{Progress}
+use Rattle.tracker.specs.Outcome.{said_as}
+use Rattle.tracker.specs.Reserving.{Granted, granted, said_reserve}
 use Rattle.tracker.specs.Recording.{said_record}
-use Rattle.tracker.specs.Finishing.{said_finish}
-use Rattle.tracker.specs.Checkpoints.{Reached, said_checkpoint}
+use Rattle.tracker.specs.Finishing.{finished, said_finish}
+use Rattle.tracker.specs.Checkpoints.{Reached, reached, said_checkpoint}
 use Rattle.tracker.specs.Draining.{said_drain}
-use Rattle.tracker.specs.Clearing.{said_clear}
+use Rattle.tracker.specs.Clearing.{empty, said_clear}
 
-pub reserve_says : (x y : ReserveAnswer) → said_reserve x ≡ said_reserve y → x ≡ y
-reserve_says (Reserved n p u) (Reserved n' p' u') e =
-    let g : ◌≡◌ {A = Granted} (record { number = n; place = p; used = u }) (record { number = n'; place = p'; used = u' }) = cc in
-    ap (λ (x : Granted). Reserved x.number x.place x.used) g
-reserve_says (Reserved n p u) (ReserveRefused r) e = let z : ◌≡◌ {A = ℕ} 0 1 = cc in absurd (omega arith)
-reserve_says (ReserveRefused r) (Reserved n p u) e = let z : ◌≡◌ {A = ℕ} 0 1 = cc in absurd (omega arith)
-reserve_says (ReserveRefused r) (ReserveRefused r') e = ap ReserveRefused (same_number r r' (cc))
+-- where the paper's words tell the values apart, they tell the answers apart
+pub as_says : {A B : Type 0} (f : A → B) → ((a b : A) → f a ≡ f b → a ≡ b) → (x y : Result A Refusal) → said_as f x ≡ said_as f y → x ≡ y
+as_says f once (Ok a) (Ok b) e = ap Ok (once a b (cc))
+as_says f once (Ok a) (Err r) e = let z : ◌≡◌ {A = ℕ} 0 1 = cc in absurd (omega arith)
+as_says f once (Err r) (Ok a) e = let z : ◌≡◌ {A = ℕ} 0 1 = cc in absurd (omega arith)
+as_says f once (Err r) (Err r') e = ap Err (same_number r r' (cc))
 
-pub record_says : (x y : RecordAnswer) → said_record x ≡ said_record y → x ≡ y
-record_says (Recorded n) (Recorded n') e = cc
-record_says (Recorded n) (RecordRefused r) e = let z : ◌≡◌ {A = ℕ} 0 1 = cc in absurd (omega arith)
-record_says (RecordRefused r) (Recorded n) e = let z : ◌≡◌ {A = ℕ} 0 1 = cc in absurd (omega arith)
-record_says (RecordRefused r) (RecordRefused r') e = ap RecordRefused (same_number r r' (cc))
+pub says : {A : Type 0} (x y : Result A Refusal) → said x ≡ said y → x ≡ y
+says (Ok a) (Ok b) e = cc
+says (Ok a) (Err r) e = let z : ◌≡◌ {A = ℕ} 0 1 = cc in absurd (omega arith)
+says (Err r) (Ok a) e = let z : ◌≡◌ {A = ℕ} 0 1 = cc in absurd (omega arith)
+says (Err r) (Err r') e = ap Err (same_number r r' (cc))
 
-pub finish_says : (x y : FinishAnswer) → said_finish x ≡ said_finish y → x ≡ y
-finish_says Done Done e = refl
-finish_says Done Stale e = let z : ◌≡◌ {A = ℕ} 0 1 = cc in absurd (omega arith)
-finish_says Done (FinishRefused r) e = let z : ◌≡◌ {A = ℕ} 0 1 = cc in absurd (omega arith)
-finish_says Stale Done e = let z : ◌≡◌ {A = ℕ} 0 1 = cc in absurd (omega arith)
-finish_says Stale Stale e = refl
-finish_says Stale (FinishRefused r) e = let z : ◌≡◌ {A = ℕ} 0 1 = cc in absurd (omega arith)
-finish_says (FinishRefused r) Done e = let z : ◌≡◌ {A = ℕ} 0 1 = cc in absurd (omega arith)
-finish_says (FinishRefused r) Stale e = let z : ◌≡◌ {A = ℕ} 0 1 = cc in absurd (omega arith)
-finish_says (FinishRefused r) (FinishRefused r') e = ap FinishRefused (same_number r r' (cc))
+pub finished_once : (a b : Finish) → finished a ≡ finished b → a ≡ b
+finished_once Done Done e = refl
+finished_once Done Stale e = let z : ◌≡◌ {A = ℕ} 0 1 = cc in absurd (omega arith)
+finished_once Stale Done e = let z : ◌≡◌ {A = ℕ} 0 1 = cc in absurd (omega arith)
+finished_once Stale Stale e = refl
 
-pub checkpoint_says : (x y : CheckpointAnswer) → said_checkpoint x ≡ said_checkpoint y → x ≡ y
-checkpoint_says (Progress o p s l w) (Progress o' p' s' l' w') e =
-    let g : ◌≡◌ {A = Reached} (record { ordinal = o; offset = p; sum = s; limit = l; pending = w }) (record { ordinal = o'; offset = p'; sum = s'; limit = l'; pending = w' }) = cc in
-    ap (λ (x : Reached). Progress x.ordinal x.offset x.sum x.limit x.pending) g
-checkpoint_says (Progress o p s l w) (CheckpointRefused r) e = let z : ◌≡◌ {A = ℕ} 0 1 = cc in absurd (omega arith)
-checkpoint_says (CheckpointRefused r) (Progress o p s l w) e = let z : ◌≡◌ {A = ℕ} 0 1 = cc in absurd (omega arith)
-checkpoint_says (CheckpointRefused r) (CheckpointRefused r') e = ap CheckpointRefused (same_number r r' (cc))
+pub reserve_says : (x y : Result Reserved Refusal) → said_reserve x ≡ said_reserve y → x ≡ y
+reserve_says = as_says granted once
+  where
+    once : (a b : Reserved) → granted a ≡ granted b → a ≡ b
+    once a b e = ap (λ (g : Granted). record { number = g.number; place = g.place; used = g.used }) e
 
-pub drain_says : (x y : DrainAnswer) → said_drain x ≡ said_drain y → x ≡ y
-drain_says (Drained s) (Drained s') e = cc
-drain_says (Drained s) (DrainRefused r) e = let z : ◌≡◌ {A = ℕ} 0 1 = cc in absurd (omega arith)
-drain_says (DrainRefused r) (Drained s) e = let z : ◌≡◌ {A = ℕ} 0 1 = cc in absurd (omega arith)
-drain_says (DrainRefused r) (DrainRefused r') e = ap DrainRefused (same_number r r' (cc))
+pub record_says : (x y : Result ℕ Refusal) → said_record x ≡ said_record y → x ≡ y
+record_says = says
 
-pub clear_says : (x y : ClearAnswer) → said_clear x ≡ said_clear y → x ≡ y
-clear_says Cleared Cleared e = refl
-clear_says Cleared (ClearRefused r) e = let z : ◌≡◌ {A = ℕ} 0 1 = cc in absurd (omega arith)
-clear_says (ClearRefused r) Cleared e = let z : ◌≡◌ {A = ℕ} 0 1 = cc in absurd (omega arith)
-clear_says (ClearRefused r) (ClearRefused r') e = ap ClearRefused (same_number r r' (cc))
+pub finish_says : (x y : Result Finish Refusal) → said_finish x ≡ said_finish y → x ≡ y
+finish_says = as_says finished finished_once
+
+pub checkpoint_says : (x y : Result Progress Refusal) → said_checkpoint x ≡ said_checkpoint y → x ≡ y
+checkpoint_says = as_says reached once
+  where
+    once : (a b : Progress) → reached a ≡ reached b → a ≡ b
+    once a b e =
+        ap (λ (g : Reached). record { ordinal = g.ordinal; offset = g.offset; sum = g.sum; limit = g.limit; pending = g.pending }) e
+
+pub drain_says : (x y : Result ℤ Refusal) → said_drain x ≡ said_drain y → x ≡ y
+drain_says = says
+
+pub clear_says : (x y : Result (Unit {0}) Refusal) → said_clear x ≡ said_clear y → x ≡ y
+clear_says = as_says (λ done. empty) (λ a b e. refl)

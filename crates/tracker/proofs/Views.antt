@@ -10,11 +10,16 @@ use native.Mathlib.Omega.{arith}
 use lib.ListN.{length, get_or, set, get_or-eq_default}
 use lib.Seq.{get_or-set_same, get_or-set_other}
 use lib.IntN.{ℤ, pos}
+use Rattle.std.proofs.lemmas.List.Edits.{get_or-between}
 use Rattle.tracker.specs.declared.Tracker.{Tracker}
 use Rattle.tracker.specs.declared.Slot.{Slot}
 use Rattle.tracker.specs.State.{seg, Waiting, State, waiting_at, queue_of, view, queue, joined}
-use Rattle.tracker.specs.Inner.{run, Roomy}
+use Rattle.tracker.specs.Inner.{HasRoom, QueueOf, part, queue_from}
 use Rattle.tracker.proofs.Runs.{get_d_seg, seg_ext, seg_snoc, seg_set, length_seg}
+
+-- the queue that has count entries from base on
+abbrev pub run : List ℕ → List ℤ → ℕ → ℕ → List Waiting
+run numbers deltas base count = seg (waiting_at numbers deltas) base count
 
 -- shard s's queue in the arrays
 abbrev pub run_of : Tracker → ℕ → List Waiting
@@ -65,9 +70,25 @@ one_queue t u s q hs es en others here =
     (seg_set (run_of t) (run_of u) 0 16 s hs (λ i hi ne. rw zero-add (others i hi ne))
     ∙ ap (set (seg (run_of t) 0 16) s) (ap (run_of u) (zero-add s) ∙ here)) en
 
+-- shard s's queue from its parts of the arrays
+module _ (t : Tracker) (s : ℕ) (hs : s < 16) {ns : List ℕ} {ds : List ℤ} (q : QueueOf t s ns ds) where
+  part_at : {A : Type 0} (xs : List A) (d : A) (j : ℕ) → j < get_or t.lengths s 0 → get_or (part xs t.lengths s) j d ≡ get_or xs (s * 32 + j) d
+  part_at xs d j h = get_or-between xs (s * 32) (s * 32 + get_or t.lengths s 0) j d (omega arith)
+
+  pub number_at : (j : ℕ) → j < get_or t.lengths s 0 → get_or ns j 0 ≡ get_or t.numbers (s * 32 + j) 0
+  number_at j h = ap (λ (xs : List ℕ). get_or xs j 0) q.numbers_are ∙ part_at t.numbers 0 j h
+
+  delta_at : (j : ℕ) → j < get_or t.lengths s 0 → get_or ds j (pos 0) ≡ get_or t.deltas (s * 32 + j) (pos 0)
+  delta_at j h = ap (λ (xs : List ℤ). get_or xs j (pos 0)) q.deltas_are ∙ part_at t.deltas (pos 0) j h
+
+  pub parts_are : queue_from ns ds ≡ queue (view t) s
+  parts_are =
+      ap (seg (waiting_at ns ds) 0) q.count
+      ∙ seg_ext (waiting_at ns ds) (waiting_at t.numbers t.deltas) 0 (s * 32) (get_or t.lengths s 0) (λ j h. rw zero-add (waiting_eq (number_at j h) (delta_at j h)))
+      ∙ sym (queue_is t s hs)
+
 -- one entry more behind the last of shard s
-module _ (t : Tracker) (rm : Roomy t) (long_n : length t.numbers ≡ 512) (long_d : length t.deltas ≡ 512) (long_l : length t.lengths ≡ 16)
-    (s : ℕ) (hs : s < 16) (hk : get_or t.lengths s 0 < 32) (n : ℕ) (d : ℤ) where
+module _ (t : Tracker) (s : ℕ) (hr : HasRoom t s) (long_n : length t.numbers ≡ 512) (long_d : length t.deltas ≡ 512) (long_l : length t.lengths ≡ 16) (n : ℕ) (d : ℤ) where
   abbrev count : ℕ
   count = get_or t.lengths s 0
 
@@ -81,8 +102,8 @@ module _ (t : Tracker) (rm : Roomy t) (long_n : length t.numbers ≡ 512) (long_
   put_others i hi ne =
       ap (run put.numbers put.deltas (i * 32)) (get_or-set_other t.lengths s i (count + 1) 0 ne)
       ∙ run_ext t put (i * 32) (i * 32) (get_or t.lengths i 0)
-      (λ j hj. get_or-set_other t.numbers at (i * 32 + j) n 0 (λ e. ne (omega (arith, rm.room i hi))))
-      (λ j hj. get_or-set_other t.deltas at (i * 32 + j) d (pos 0) (λ e. ne (omega (arith, rm.room i hi))))
+      (λ j hj. get_or-set_other t.numbers at (i * 32 + j) n 0 (λ e. ne (omega (arith, hr.roomy.room i hi))))
+      (λ j hj. get_or-set_other t.deltas at (i * 32 + j) d (pos 0) (λ e. ne (omega (arith, hr.roomy.room i hi))))
 
   put_here : run_of put s ≡ queue (view t) s ++ (record { number = n; delta = d } ∷ [])
   put_here =
@@ -92,10 +113,10 @@ module _ (t : Tracker) (rm : Roomy t) (long_n : length t.numbers ≡ 512) (long_
       (run_ext t put (s * 32) (s * 32) count
       (λ j hj. get_or-set_other t.numbers at (s * 32 + j) n 0 (λ e. omega arith))
       (λ j hj. get_or-set_other t.deltas at (s * 32 + j) d (pos 0) (λ e. omega arith))
-      ∙ sym (queue_is t s hs))
+      ∙ sym (queue_is t s hr.on_shard))
       ∙ ap (λ (w : Waiting). queue (view t) s ++ (w ∷ []))
       (waiting_eq (get_or-set_same t.numbers at n 0 (omega arith)) (get_or-set_same t.deltas at d (pos 0) (omega arith)))
 
   pub push_law : view put ≡ joined (view t) s n d
   unfolding joined view
-  push_law = one_queue t put s _ hs refl refl put_others put_here
+  push_law = one_queue t put s _ hr.on_shard refl refl put_others put_here

@@ -1,13 +1,12 @@
 -- Document 01, "Tracker": checkpoint.
 -- Assumes nothing.
-use Rattle.std.specs.Prelude.{ℕ, Bool, not, ◌||◌, List, [], length, eqb, ℤ}
-use Rattle.answers.specs.Numbers.{number_of}
-use Rattle.answers.specs.Answers.{Said, accepted, refused, unless_refused}
-use Rattle.tracker.specs.declared.CheckpointAnswer.{CheckpointAnswer}
-use Rattle.tracker.specs.declared.CheckpointAnswer.TheVariants.{Progress, Refused}
+use Rattle.std.specs.Prelude.{ℕ, Bool, not, ◌||◌, List, length, eqb, ℤ, Result}
+use Rattle.answers.specs.Answers.{Said, accepted, unless_refused}
+use Rattle.answers.specs.declared.Refusal.{Refusal}
+use Rattle.tracker.specs.declared.Progress.{Progress}
 use Rattle.tracker.specs.State.{Waiting, State}
 use Rattle.tracker.specs.Sound.{every}
-use Rattle.tracker.specs.Outcome.{sound_refusal}
+use Rattle.tracker.specs.Outcome.{sound_refusal, said_as}
 use Rattle.tracker.specs.Least.{least_of}
 use Rattle.tracker.specs.Sums.{sum_of}
 
@@ -37,7 +36,8 @@ reached_of m ordinal used =
 abbrev pub checkpoint_of : State → ℕ → ℕ → Said Reached
 checkpoint_of m ordinal used = unless_refused (sound_refusal m) (accepted (reached_of m ordinal used))
 
-abbrev pub said_checkpoint : CheckpointAnswer → Said Reached
-said_checkpoint (Progress ordinal offset sum limit pending) =
-    accepted (record { ordinal = ordinal; offset = offset; sum = sum; limit = limit; pending = pending })
-said_checkpoint (Refused r) = refused (number_of r) []
+abbrev pub reached : Progress → Reached
+reached a = record { ordinal = a.ordinal; offset = a.offset; sum = a.sum; limit = a.limit; pending = a.pending }
+
+abbrev pub said_checkpoint : Result Progress Refusal → Said Reached
+said_checkpoint = said_as reached

@@ -1,16 +1,16 @@
 -- Document 01, "Tracker", with document 02's request 6: complete and abandon.
 -- Assumes nothing.
-use Rattle.std.specs.Prelude.{ℕ, ◌≡◌, Bool, true, false, cond, not, ◌&&◌, List, [], ◌∷◌, ltb, eqb, ℤ, nat_abs}
-use Rattle.answers.specs.Numbers.{number_of}
-use Rattle.answers.specs.Answers.{Said, accepted, refused, first_of, unless_refused}
+use Rattle.std.specs.Prelude.{ℕ, ◌≡◌, Bool, true, false, cond, not, ◌&&◌, List, [], ◌∷◌, ltb, eqb, ℤ, nat_abs, Result}
+use Rattle.answers.specs.Answers.{Said, accepted, first_of, unless_refused}
+use Rattle.answers.specs.declared.Refusal.{Refusal}
 use Rattle.tracker.specs.declared.Slot.{Slot}
 use Rattle.tracker.specs.declared.Tracker.{Tracker}
-use Rattle.tracker.specs.declared.FinishAnswer.{FinishAnswer}
-use Rattle.tracker.specs.declared.FinishAnswer.TheVariants.{Done, Stale, Refused}
-use Rattle.tracker.specs.declared.AfterFinish.{AfterFinish}
+use Rattle.tracker.specs.declared.Finish.{Finish}
+use Rattle.tracker.specs.declared.Finish.TheVariants.{Done, Stale}
+use Rattle.tracker.specs.declared.After.{After}
 use Rattle.tracker.specs.State.{State, view, slot_of, with_slot, inserted}
 use Rattle.tracker.specs.Sound.{sound}
-use Rattle.tracker.specs.Outcome.{Met}
+use Rattle.tracker.specs.Outcome.{Met, said_as}
 
 pub data Finished : Type 0 where
   done : Finished
@@ -56,18 +56,20 @@ unfoldable pub completed : State → ℕ → ℕ → ℤ → State
 completed m shard number delta =
     cond (matches (slot_of m shard) number && not (is_zero delta)) (inserted (abandoned m shard number) shard number delta) (abandoned m shard number)
 
-abbrev pub said_finish : FinishAnswer → Said Finished
-said_finish Done = accepted done
-said_finish Stale = accepted stale
-said_finish (Refused r) = refused (number_of r) []
+abbrev pub finished : Finish → Finished
+finished Done = done
+finished Stale = stale
+
+abbrev pub said_finish : Result Finish Refusal → Said Finished
+said_finish = said_as finished
 
 -- besides `Met`: a stale call, too, leaves the very same value
-pub record FinishMet (t : Tracker) (shard number : ℕ) (new : State) (r : AfterFinish) : Type 0 where
+pub record FinishMet (t : Tracker) (shard number : ℕ) (new : State) (r : After Finish) : Type 0 where
   pub met : Met Finished (finish_of (view t) shard number) (said_finish r.answer) t r.tracker new
   pub stale_untouched : finish_of (view t) shard number ≡ accepted stale → r.tracker ≡ t
 
-abbrev pub CompleteMet : Tracker → ℕ → ℕ → ℤ → AfterFinish → Type 0
+abbrev pub CompleteMet : Tracker → ℕ → ℕ → ℤ → After Finish → Type 0
 CompleteMet t shard number delta r = FinishMet t shard number (completed (view t) shard number delta) r
 
-abbrev pub AbandonMet : Tracker → ℕ → ℕ → AfterFinish → Type 0
+abbrev pub AbandonMet : Tracker → ℕ → ℕ → After Finish → Type 0
 AbandonMet t shard number r = FinishMet t shard number (abandoned (view t) shard number) r

@@ -1,12 +1,10 @@
 -- Document 01, "Tracker": record.
 -- Assumes nothing.
-use Rattle.std.specs.Prelude.{ℕ, ◌+◌, ◌-◌, ◌^◌, Bool, not, List, [], ◌∷◌, length, ltb, leb, eqb, ℤ}
-use Rattle.answers.specs.Numbers.{number_of}
-use Rattle.answers.specs.Answers.{Said, accepted, refused, first_of, unless_refused}
+use Rattle.std.specs.Prelude.{ℕ, ◌+◌, ◌-◌, ◌^◌, Bool, not, List, [], ◌∷◌, length, ltb, leb, eqb, ℤ, Result}
+use Rattle.answers.specs.Answers.{Said, accepted, first_of, unless_refused, said}
+use Rattle.answers.specs.declared.Refusal.{Refusal}
 use Rattle.tracker.specs.declared.Tracker.{Tracker}
-use Rattle.tracker.specs.declared.RecordAnswer.{RecordAnswer}
-use Rattle.tracker.specs.declared.RecordAnswer.TheVariants.{Recorded, Refused}
-use Rattle.tracker.specs.declared.AfterRecord.{AfterRecord}
+use Rattle.tracker.specs.declared.After.{After}
 use Rattle.tracker.specs.State.{State, view, slot_of, queue, places, with_next, joined}
 use Rattle.tracker.specs.Sound.{sound}
 use Rattle.tracker.specs.Outcome.{Met}
@@ -31,9 +29,8 @@ record_of m shard = unless_refused (record_refusal m shard) (accepted m.next)
 unfoldable pub recorded : State → ℕ → ℤ → State
 recorded m shard delta = with_next (joined m shard m.next delta) (m.next + 1)
 
-abbrev pub said_record : RecordAnswer → Said ℕ
-said_record (Recorded number) = accepted number
-said_record (Refused r) = refused (number_of r) []
+abbrev pub said_record : Result ℕ Refusal → Said ℕ
+said_record = said
 
-abbrev pub RecordMet : Tracker → ℕ → ℤ → AfterRecord → Type 0
+abbrev pub RecordMet : Tracker → ℕ → ℤ → After ℕ → Type 0
 RecordMet t shard delta r = Met ℕ (record_of (view t) shard) (said_record r.answer) t r.tracker (recorded (view t) shard delta)

@@ -1,16 +1,15 @@
 -- Document 01, "Tracker": reserve.
 -- Assumes nothing.
-use Rattle.std.specs.Prelude.{ℕ, ◌+◌, ◌-◌, ◌%◌, ◌^◌, Bool, not, ◌||◌, List, [], ◌∷◌, length, ltb, eqb}
+use Rattle.std.specs.Prelude.{ℕ, ◌+◌, ◌-◌, ◌%◌, ◌^◌, Bool, not, ◌||◌, List, [], ◌∷◌, length, ltb, eqb, Result}
 use Rattle.answers.specs.Limits.{largest_region}
-use Rattle.answers.specs.Numbers.{number_of}
-use Rattle.answers.specs.Answers.{Said, accepted, refused, first_of, unless_refused}
+use Rattle.answers.specs.Answers.{Said, accepted, first_of, unless_refused}
+use Rattle.answers.specs.declared.Refusal.{Refusal}
 use Rattle.tracker.specs.declared.Tracker.{Tracker}
-use Rattle.tracker.specs.declared.ReserveAnswer.{ReserveAnswer}
-use Rattle.tracker.specs.declared.ReserveAnswer.TheVariants.{Reserved, Refused}
-use Rattle.tracker.specs.declared.AfterReserve.{AfterReserve}
+use Rattle.tracker.specs.declared.Reserved.{Reserved}
+use Rattle.tracker.specs.declared.After.{After}
 use Rattle.tracker.specs.State.{State, view, queue, with_slot, with_next}
 use Rattle.tracker.specs.Sound.{sound}
-use Rattle.tracker.specs.Outcome.{Met}
+use Rattle.tracker.specs.Outcome.{Met, said_as}
 
 -- what an accepted reserve answers: its number, its place, and the used count afterwards
 pub record Granted : Type 0 where
@@ -43,10 +42,12 @@ reserve_of m shard used capacity sealed len =
 unfoldable pub reserved : State → ℕ → ℕ → ℕ → State
 reserved m shard ordinal used = with_next (with_slot m shard (record { number = m.next; ordinal = ordinal; offset = used })) (m.next + 1)
 
-abbrev pub said_reserve : ReserveAnswer → Said Granted
-said_reserve (Reserved number place used) = accepted (record { number = number; place = place; used = used })
-said_reserve (Refused r) = refused (number_of r) []
+abbrev pub granted : Reserved → Granted
+granted a = record { number = a.number; place = a.place; used = a.used }
 
-abbrev pub ReserveMet : Tracker → ℕ → ℕ → ℕ → ℕ → Bool → ℕ → AfterReserve → Type 0
+abbrev pub said_reserve : Result Reserved Refusal → Said Granted
+said_reserve = said_as granted
+
+abbrev pub ReserveMet : Tracker → ℕ → ℕ → ℕ → ℕ → Bool → ℕ → After Reserved → Type 0
 ReserveMet t shard ordinal used capacity sealed len r =
     Met Granted (reserve_of (view t) shard used capacity sealed len) (said_reserve r.answer) t r.tracker (reserved (view t) shard ordinal used)

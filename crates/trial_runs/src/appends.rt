@@ -1,53 +1,38 @@
 // Document 01, "Trials" on the largest entry and on the capacity, and the refusals of both appends,
 // 5, 9, 17, 11, 12 and 13, each at its limit and past it, and in their order. A refused append has to
 // leave the region as found too.
-use crate::judge::Said;
+use crate::judge::Found;
 use crate::{judge, sample};
-use append::Appended;
-use scan::Walked;
+use answers::Refusal;
+use append::Item;
 use std::io;
 
-pub fn said_of(answer: Appended, as_found: bool) -> Said {
-    match answer {
-        Appended::Used(used) => Said::Number(used as u64),
-        Appended::Refused(refusal) => judge::refused_leaving(refusal, as_found),
-    }
-}
-
 // The region's length is its capacity.
-fn begin(rt: &impl Print, capacity: usize, used: usize, ns: u64, klen: usize) -> io::Result<()> {
-    judge::number(rt, b", capacity ", capacity as u64)?;
-    judge::number(rt, b", used ", used as u64)?;
-    judge::number(rt, b", ns ", ns)?;
-    judge::number(rt, b", key ", klen as u64)
-}
-
 pub fn data(
     rt: &impl Print,
     region: &mut [u8],
     used: usize,
-    kind: u64,
-    ns: u64,
-    key: &[u8],
-    value: &[u8],
-    expected: Said,
+    asked: Item,
+    expected: Result<usize, Refusal>,
 ) -> io::Result<()> {
-    judge::number(rt, b"  append type ", kind)?;
-    begin(rt, region.len(), used, ns, key.len())?;
-    judge::number(rt, b", value ", value.len() as u64)?;
-    let before = checksum::hash(region);
-    let answer = append::append_data(
+    print!(rt;
+        "  append type {}, capacity {}, used {used}",
+        asked.kind,
+        region.len()
+    )?;
+    print!(rt;
+        ", ns {}, key {}, value {}",
+        asked.ns,
+        asked.key.len(),
+        asked.value.len()
+    )?;
+    judge::written(
+        rt,
         region,
-        sample::VERSION,
-        sample::ORDINAL,
-        used,
-        kind,
-        ns,
-        key,
-        value,
-    );
-    let as_found = before == checksum::hash(region);
-    judge::answer(rt, said_of(answer, as_found), expected)
+        |region| append::append_data(region, sample::FILE, used, asked),
+        expected,
+        "document 01",
+    )
 }
 
 pub fn tombstone(
@@ -56,17 +41,24 @@ pub fn tombstone(
     used: usize,
     ns: u64,
     key: &[u8],
-    expected: Said,
+    expected: Result<usize, Refusal>,
 ) -> io::Result<()> {
-    judge::write(rt, b"  append tombstone")?;
-    begin(rt, region.len(), used, ns, key.len())?;
-    let before = checksum::hash(region);
-    let answer = append::append_tombstone(region, sample::VERSION, sample::ORDINAL, used, ns, key);
-    let as_found = before == checksum::hash(region);
-    judge::answer(rt, said_of(answer, as_found), expected)
+    print!(rt;
+        "  append tombstone, capacity {}, used {used}",
+        region.len()
+    )?;
+    print!(rt; ", ns {ns}, key {}", key.len())?;
+    judge::written(
+        rt,
+        region,
+        |region| append::append_tombstone(region, sample::FILE, used, ns, key),
+        expected,
+        "document 01",
+    )
 }
 
-// Into a region of any length, with a key and a value as long as they are asked to be.
+// With a key and a value as long as they are asked to be. The numbers stay apart: a struct at each
+// trial's line would be no plainer.
 fn of_lengths(
     rt: &impl Print,
     region: &mut [u8],
@@ -75,147 +67,309 @@ fn of_lengths(
     ns: u64,
     klen: usize,
     vlen: usize,
-    expected: Said,
+    expected: Result<usize, Refusal>,
 ) -> io::Result<()> {
     let source = [0x6bu8; 32769];
-    let key = judge::start_of(&source, klen);
-    let value = judge::start_of(&source, vlen);
-    data(rt, region, used, kind, ns, key, value, expected)
+    let asked = Item {
+        kind,
+        ns,
+        key: start_of(&source, klen),
+        value: start_of(&source, vlen),
+    };
+    data(rt, region, used, asked, expected)
 }
 
-fn in_48(
+fn tombstone_of_length(
     rt: &impl Print,
-    used: usize,
-    kind: u64,
-    ns: u64,
-    klen: usize,
-    vlen: usize,
-    expected: Said,
-) -> io::Result<()> {
-    let mut region = [0x55u8; 48];
-    of_lengths(rt, &mut region, used, kind, ns, klen, vlen, expected)
-}
-
-fn in_40000(rt: &impl Print, klen: usize, vlen: usize, expected: Said) -> io::Result<()> {
-    let mut region = [0x55u8; 40000];
-    of_lengths(rt, &mut region, 0, 0, 1, klen, vlen, expected)
-}
-
-fn tombstone_in_48(
-    rt: &impl Print,
+    region: &mut [u8],
     used: usize,
     ns: u64,
     klen: usize,
-    expected: Said,
+    expected: Result<usize, Refusal>,
 ) -> io::Result<()> {
     let source = [0x6bu8; 4097];
-    let mut region = [0x55u8; 48];
-    tombstone(
-        rt,
-        &mut region,
-        used,
-        ns,
-        judge::start_of(&source, klen),
-        expected,
-    )
+    tombstone(rt, region, used, ns, start_of(&source, klen), expected)
+}
+
+// The first n bytes of a run, which is as long as the longest that is asked for. No trial asks for more,
+// and an Option at each trial's line would be no plainer.
+fn start_of(run: &[u8], n: usize) -> &[u8] {
+    run.get(..n).unwrap_or(&[])
 }
 
 // "Capacity 48: used 32 with length 16 is accepted, with 32 gets 13." A key of 2 and a value of 4
 // make 16 bytes, flush; a value of 5 makes 17, aligned 32.
 fn capacity(rt: &impl Print) -> io::Result<()> {
-    judge::write(rt, b"append\n")?;
-    in_48(rt, 32, 0, 1, 2, 4, Said::Number(48))?;
-    in_48(rt, 32, 0, 1, 2, 5, Said::Refused(13))?;
-    in_48(rt, 48, 0, 1, 2, 4, Said::Refused(13))?;
-    in_48(rt, 64, 0, 1, 2, 4, Said::Refused(13))?;
-    in_48(rt, 18446744073709551600, 0, 1, 2, 4, Said::Refused(13))?;
-    let mut smaller = [0x55u8; 47];
-    of_lengths(rt, &mut smaller, 32, 0, 1, 2, 4, Said::Refused(13))?;
-    let mut larger = [0x55u8; 49];
-    of_lengths(rt, &mut larger, 32, 0, 1, 2, 4, Said::Number(48))
+    println!(rt; "append")?;
+    of_lengths(rt, &mut [0x55u8; 48], 32, 0, 1, 2, 4, Ok(48))?;
+    of_lengths(rt, &mut [0x55u8; 48], 32, 0, 1, 2, 5, Err(Refusal::NoSpace))?;
+    of_lengths(rt, &mut [0x55u8; 48], 48, 0, 1, 2, 4, Err(Refusal::NoSpace))?;
+    of_lengths(rt, &mut [0x55u8; 48], 64, 0, 1, 2, 4, Err(Refusal::NoSpace))?;
+    of_lengths(
+        rt,
+        &mut [0x55u8; 48],
+        18446744073709551600,
+        0,
+        1,
+        2,
+        4,
+        Err(Refusal::NoSpace),
+    )?;
+    of_lengths(rt, &mut [0x55u8; 47], 32, 0, 1, 2, 4, Err(Refusal::NoSpace))?;
+    of_lengths(rt, &mut [0x55u8; 49], 32, 0, 1, 2, 4, Ok(48))
 }
 
 // Used count, type and namespace at their limits.
 fn limits(rt: &impl Print) -> io::Result<()> {
-    in_48(rt, 15, 0, 1, 2, 4, Said::Refused(5))?;
-    in_48(rt, 16, 0, 1, 2, 4, Said::Number(32))?;
-    in_48(rt, 17, 0, 1, 2, 4, Said::Refused(5))?;
-    in_48(rt, 18446744073709551615, 0, 1, 2, 4, Said::Refused(5))?;
-    in_48(rt, 0, 1, 1, 2, 4, Said::Number(16))?;
-    in_48(rt, 0, 2, 1, 2, 4, Said::Refused(9))?;
-    in_48(rt, 0, 3, 1, 2, 4, Said::Refused(9))?;
-    in_48(rt, 0, 18446744073709551615, 1, 2, 4, Said::Refused(9))?;
-    in_48(rt, 0, 0, 0, 2, 4, Said::Number(16))?;
-    in_48(rt, 0, 0, 63, 2, 4, Said::Number(16))?;
-    in_48(rt, 0, 0, 64, 2, 4, Said::Refused(17))?;
-    in_48(rt, 0, 0, 18446744073709551615, 2, 4, Said::Refused(17))
+    of_lengths(
+        rt,
+        &mut [0x55u8; 48],
+        15,
+        0,
+        1,
+        2,
+        4,
+        Err(Refusal::NotOnLine),
+    )?;
+    of_lengths(rt, &mut [0x55u8; 48], 16, 0, 1, 2, 4, Ok(32))?;
+    of_lengths(
+        rt,
+        &mut [0x55u8; 48],
+        17,
+        0,
+        1,
+        2,
+        4,
+        Err(Refusal::NotOnLine),
+    )?;
+    of_lengths(
+        rt,
+        &mut [0x55u8; 48],
+        18446744073709551615,
+        0,
+        1,
+        2,
+        4,
+        Err(Refusal::NotOnLine),
+    )?;
+    of_lengths(rt, &mut [0x55u8; 48], 0, 1, 1, 2, 4, Ok(16))?;
+    of_lengths(
+        rt,
+        &mut [0x55u8; 48],
+        0,
+        2,
+        1,
+        2,
+        4,
+        Err(Refusal::TypeNotAllowed),
+    )?;
+    of_lengths(
+        rt,
+        &mut [0x55u8; 48],
+        0,
+        3,
+        1,
+        2,
+        4,
+        Err(Refusal::TypeNotAllowed),
+    )?;
+    of_lengths(
+        rt,
+        &mut [0x55u8; 48],
+        0,
+        18446744073709551615,
+        1,
+        2,
+        4,
+        Err(Refusal::TypeNotAllowed),
+    )?;
+    of_lengths(rt, &mut [0x55u8; 48], 0, 0, 0, 2, 4, Ok(16))?;
+    of_lengths(rt, &mut [0x55u8; 48], 0, 0, 63, 2, 4, Ok(16))?;
+    of_lengths(
+        rt,
+        &mut [0x55u8; 48],
+        0,
+        0,
+        64,
+        2,
+        4,
+        Err(Refusal::NamespaceTooLarge),
+    )?;
+    of_lengths(
+        rt,
+        &mut [0x55u8; 48],
+        0,
+        0,
+        18446744073709551615,
+        2,
+        4,
+        Err(Refusal::NamespaceTooLarge),
+    )
 }
 
 // "Key 4,096 passes, 4,097 gets 11."
 fn lengths(rt: &impl Print) -> io::Result<()> {
-    in_40000(rt, 0, 0, Said::Number(16))?;
-    in_40000(rt, 4095, 0, Said::Number(4112))?;
-    in_40000(rt, 4096, 0, Said::Number(4112))?;
-    in_40000(rt, 4097, 0, Said::Refused(11))?;
-    in_40000(rt, 0, 32767, Said::Number(32784))?;
-    in_40000(rt, 0, 32768, Said::Number(32784))?;
-    in_40000(rt, 0, 32769, Said::Refused(12))
+    of_lengths(rt, &mut [0x55u8; 40000], 0, 0, 1, 0, 0, Ok(16))?;
+    of_lengths(rt, &mut [0x55u8; 40000], 0, 0, 1, 4095, 0, Ok(4112))?;
+    of_lengths(rt, &mut [0x55u8; 40000], 0, 0, 1, 4096, 0, Ok(4112))?;
+    of_lengths(
+        rt,
+        &mut [0x55u8; 40000],
+        0,
+        0,
+        1,
+        4097,
+        0,
+        Err(Refusal::KeyTooLong),
+    )?;
+    of_lengths(rt, &mut [0x55u8; 40000], 0, 0, 1, 0, 32767, Ok(32784))?;
+    of_lengths(rt, &mut [0x55u8; 40000], 0, 0, 1, 0, 32768, Ok(32784))?;
+    of_lengths(
+        rt,
+        &mut [0x55u8; 40000],
+        0,
+        0,
+        1,
+        0,
+        32769,
+        Err(Refusal::ValueTooLong),
+    )
 }
 
 // "Largest writable data entry: 36,874 bytes, 36,880 aligned." The end that the walk reports isn't
 // rounded, so for an entry at 0 it is the length.
-fn largest(rt: &impl Print, region: &mut [u8]) -> io::Result<()> {
-    of_lengths(rt, region, 0, 0, 1, 4096, 32768, Said::Number(36880))?;
-    let walked = scan::walk(region, sample::VERSION, sample::ORDINAL, region.len(), 0);
-    judge::write(rt, b"  its length")?;
-    match walked {
-        Walked::Found(e) => judge::answer(rt, Said::Number(e.end as u64), Said::Number(36874)),
-        _ => judge::another_kind(rt),
-    }
+fn largest(rt: &impl Print) -> io::Result<()> {
+    let mut region = [0x55u8; 36880];
+    of_lengths(rt, &mut region, 0, 0, 1, 4096, 32768, Ok(36880))?;
+    print!(rt; "  its length")?;
+    let answered = scan::walk(&region, sample::FILE, region.len(), 0);
+    judge::answer(
+        rt,
+        answered.map(|found| Found(found.map(|e| e.end))),
+        Ok(Found(Some(36874))),
+        "document 01",
+    )
 }
 
 fn largest_entries(rt: &impl Print) -> io::Result<()> {
-    let mut region = [0x55u8; 36880];
-    largest(rt, &mut region)?;
-    let mut smaller = [0x55u8; 36879];
-    of_lengths(rt, &mut smaller, 0, 0, 1, 4096, 32768, Said::Refused(13))
+    largest(rt)?;
+    of_lengths(
+        rt,
+        &mut [0x55u8; 36879],
+        0,
+        0,
+        1,
+        4096,
+        32768,
+        Err(Refusal::NoSpace),
+    )
 }
 
 // Everything wrong at once, and then one thing less at each trial.
 fn order(rt: &impl Print) -> io::Result<()> {
-    judge::write(rt, b"append, refusals in their order\n")?;
-    in_48(rt, 1, 2, 64, 4097, 32769, Said::Refused(5))?;
-    in_48(rt, 32, 2, 64, 4097, 32769, Said::Refused(9))?;
-    in_48(rt, 32, 1, 64, 4097, 32769, Said::Refused(17))?;
-    in_48(rt, 32, 1, 63, 4097, 32769, Said::Refused(11))?;
-    in_48(rt, 32, 1, 63, 4096, 32769, Said::Refused(12))?;
-    in_48(rt, 32, 1, 63, 4096, 32768, Said::Refused(13))?;
-    in_48(rt, 32, 1, 63, 2, 4, Said::Number(48))
+    println!(rt; "append, refusals in their order")?;
+    of_lengths(
+        rt,
+        &mut [0x55u8; 48],
+        1,
+        2,
+        64,
+        4097,
+        32769,
+        Err(Refusal::NotOnLine),
+    )?;
+    of_lengths(
+        rt,
+        &mut [0x55u8; 48],
+        32,
+        2,
+        64,
+        4097,
+        32769,
+        Err(Refusal::TypeNotAllowed),
+    )?;
+    of_lengths(
+        rt,
+        &mut [0x55u8; 48],
+        32,
+        1,
+        64,
+        4097,
+        32769,
+        Err(Refusal::NamespaceTooLarge),
+    )?;
+    of_lengths(
+        rt,
+        &mut [0x55u8; 48],
+        32,
+        1,
+        63,
+        4097,
+        32769,
+        Err(Refusal::KeyTooLong),
+    )?;
+    of_lengths(
+        rt,
+        &mut [0x55u8; 48],
+        32,
+        1,
+        63,
+        4096,
+        32769,
+        Err(Refusal::ValueTooLong),
+    )?;
+    of_lengths(
+        rt,
+        &mut [0x55u8; 48],
+        32,
+        1,
+        63,
+        4096,
+        32768,
+        Err(Refusal::NoSpace),
+    )?;
+    of_lengths(rt, &mut [0x55u8; 48], 32, 1, 63, 2, 4, Ok(48))
 }
 
 fn tombstone_order(rt: &impl Print) -> io::Result<()> {
-    tombstone_in_48(rt, 1, 64, 4097, Said::Refused(5))?;
-    tombstone_in_48(rt, 32, 64, 4097, Said::Refused(17))?;
-    tombstone_in_48(rt, 32, 63, 4097, Said::Refused(11))?;
-    tombstone_in_48(rt, 32, 63, 4096, Said::Refused(13))?;
-    tombstone_in_48(rt, 32, 63, 2, Said::Number(48))
+    tombstone_of_length(rt, &mut [0x55u8; 48], 1, 64, 4097, Err(Refusal::NotOnLine))?;
+    tombstone_of_length(
+        rt,
+        &mut [0x55u8; 48],
+        32,
+        64,
+        4097,
+        Err(Refusal::NamespaceTooLarge),
+    )?;
+    tombstone_of_length(
+        rt,
+        &mut [0x55u8; 48],
+        32,
+        63,
+        4097,
+        Err(Refusal::KeyTooLong),
+    )?;
+    tombstone_of_length(rt, &mut [0x55u8; 48], 32, 63, 4096, Err(Refusal::NoSpace))?;
+    tombstone_of_length(rt, &mut [0x55u8; 48], 32, 63, 2, Ok(48))
 }
 
 // A key of 8 makes a tombstone of 16 bytes, flush; one of 9 makes 17, aligned 32.
 fn tombstones(rt: &impl Print) -> io::Result<()> {
-    judge::write(rt, b"append tombstone\n")?;
-    tombstone_in_48(rt, 32, 1, 8, Said::Number(48))?;
-    tombstone_in_48(rt, 32, 1, 9, Said::Refused(13))?;
-    tombstone_in_48(rt, 15, 1, 2, Said::Refused(5))?;
-    tombstone_in_48(rt, 17, 1, 2, Said::Refused(5))?;
-    tombstone_in_48(rt, 0, 63, 0, Said::Number(16))?;
-    tombstone_in_48(rt, 0, 64, 0, Said::Refused(17))
-}
-
-fn longest_tombstone(rt: &impl Print) -> io::Result<()> {
-    let key = [0x6bu8; 4096];
-    let mut region = [0x55u8; 4112];
-    tombstone(rt, &mut region, 0, 1, &key, Said::Number(4112))
+    println!(rt; "append tombstone")?;
+    tombstone_of_length(rt, &mut [0x55u8; 48], 32, 1, 8, Ok(48))?;
+    tombstone_of_length(rt, &mut [0x55u8; 48], 32, 1, 9, Err(Refusal::NoSpace))?;
+    tombstone_of_length(rt, &mut [0x55u8; 48], 15, 1, 2, Err(Refusal::NotOnLine))?;
+    tombstone_of_length(rt, &mut [0x55u8; 48], 17, 1, 2, Err(Refusal::NotOnLine))?;
+    tombstone_of_length(rt, &mut [0x55u8; 48], 0, 63, 0, Ok(16))?;
+    tombstone_of_length(
+        rt,
+        &mut [0x55u8; 48],
+        0,
+        64,
+        0,
+        Err(Refusal::NamespaceTooLarge),
+    )?;
+    tombstone_of_length(rt, &mut [0x55u8; 4112], 0, 1, 4096, Ok(4112))
 }
 
 // What is written at 32 with its filling; the bytes before it and the one behind it stay.
@@ -226,16 +380,12 @@ const WRITTEN: [u8; 49] = [
     0x55,
 ];
 
-fn written(rt: &impl Print, region: &mut [u8]) -> io::Result<()> {
-    judge::write(rt, b"append, what is written\n")?;
-    data(rt, region, 32, 0, 1, b"A7", b"9", Said::Number(48))?;
-    judge::write(rt, b"  13 bytes at 32, 3 of filling, all others as found")?;
-    judge::holds(rt, &*region == WRITTEN.as_slice())
-}
-
-fn bytes_written(rt: &impl Print) -> io::Result<()> {
+fn written(rt: &impl Print) -> io::Result<()> {
+    println!(rt; "append, what is written")?;
     let mut region = [0x55u8; 49];
-    written(rt, &mut region)
+    data(rt, &mut region, 32, sample::item(0, 1, b"9"), Ok(48))?;
+    print!(rt; "  13 bytes at 32, 3 of filling, all others as found")?;
+    judge::holds(rt, region == WRITTEN, "document 01")
 }
 
 pub fn trials(rt: &impl Print) -> io::Result<()> {
@@ -245,7 +395,6 @@ pub fn trials(rt: &impl Print) -> io::Result<()> {
     largest_entries(rt)?;
     order(rt)?;
     tombstones(rt)?;
-    longest_tombstone(rt)?;
     tombstone_order(rt)?;
-    bytes_written(rt)
+    written(rt)
 }

@@ -1,76 +1,48 @@
 // The read at a place: refusals 5, 6, 7, 8 and 9, the data layout whatever the type, and the type
 // that it reports, which is the one that was written.
-use crate::judge::Said;
+use crate::judge::Listed;
 use crate::{judge, sample};
+use answers::Refusal;
 use entry::Entry;
-use read::Reading;
 use std::io;
 
-fn begin(rt: &impl Print, length: usize, p: usize, hint: usize) -> io::Result<()> {
-    judge::number(rt, b"  read of ", length as u64)?;
-    judge::number(rt, b" bytes, place ", p as u64)?;
-    judge::number(rt, b", hint ", hint as u64)
-}
-
-// A read that is refused.
-pub fn none(
+// A read, and by which document it has to answer this.
+fn read_by(
     rt: &impl Print,
     region: &[u8],
     p: usize,
     hint: usize,
-    expected: Said,
+    expected: Result<Entry, Refusal>,
+    document: &str,
 ) -> io::Result<()> {
-    begin(rt, region.len(), p, hint)?;
-    let reading = read::read_at(region, sample::VERSION, sample::ORDINAL, p, hint);
-    match reading {
-        Reading::Data(_) => judge::another_kind(rt),
-        Reading::Refused(refusal) => judge::answer(rt, judge::refused(refusal), expected),
-    }
+    print!(rt; "  read of {} bytes, place {p}, hint {hint}", region.len())?;
+    let answered = read::read_at(region, sample::FILE, p, hint);
+    judge::answer(rt, answered.map(Listed), expected.map(Listed), document)
 }
 
-// A read that finds a data entry.
-fn one_by(
+pub fn read(
     rt: &impl Print,
     region: &[u8],
     p: usize,
     hint: usize,
-    expected: Entry,
-    document: &[u8],
+    expected: Result<Entry, Refusal>,
 ) -> io::Result<()> {
-    begin(rt, region.len(), p, hint)?;
-    let reading = read::read_at(region, sample::VERSION, sample::ORDINAL, p, hint);
-    match reading {
-        Reading::Data(e) => judge::found_by(rt, e, expected, document),
-        Reading::Refused(_) => judge::another_kind(rt),
-    }
-}
-
-pub fn one(
-    rt: &impl Print,
-    region: &[u8],
-    p: usize,
-    hint: usize,
-    expected: Entry,
-) -> io::Result<()> {
-    one_by(rt, region, p, hint, expected, b"document 01")
+    read_by(rt, region, p, hint, expected, "document 01")
 }
 
 // The sample's update. That its type is told as it was written is document 02's request 4.
 fn updated(rt: &impl Print, three: &[u8], hint: usize) -> io::Result<()> {
-    one_by(rt, three, 16, hint, sample::update(), b"request 4")
+    read_by(rt, three, 16, hint, Ok(sample::update()), "request 4")
 }
 
 // The update has 14 bytes.
 fn hints(rt: &impl Print, three: &[u8]) -> io::Result<()> {
-    judge::write(
-        rt,
-        b"read at a place, insert, update and tombstone in 48 bytes\n",
-    )?;
-    one(rt, three, 0, 48, sample::insert())?;
-    none(rt, three, 16, 0, Said::Refused(6))?;
-    none(rt, three, 16, 7, Said::Refused(6))?;
-    none(rt, three, 16, 8, Said::Refused(6))?;
-    none(rt, three, 16, 13, Said::Refused(6))?;
+    println!(rt; "read at a place, insert, update and tombstone in 48 bytes")?;
+    read(rt, three, 0, 48, Ok(sample::insert()))?;
+    read(rt, three, 16, 0, Err(Refusal::EntryTooShort))?;
+    read(rt, three, 16, 7, Err(Refusal::EntryTooShort))?;
+    read(rt, three, 16, 8, Err(Refusal::EntryTooShort))?;
+    read(rt, three, 16, 13, Err(Refusal::EntryTooShort))?;
     updated(rt, three, 14)?;
     updated(rt, three, 15)?;
     updated(rt, three, 18446744073709551615)
@@ -79,44 +51,38 @@ fn hints(rt: &impl Print, three: &[u8]) -> io::Result<()> {
 // At 48 the region ends. The tombstone's key stands where a data entry has its value's length, which
 // makes 14,145 bytes.
 fn places(rt: &impl Print, three: &[u8]) -> io::Result<()> {
-    none(rt, three, 15, 48, Said::Refused(5))?;
-    none(rt, three, 17, 48, Said::Refused(5))?;
-    none(rt, three, 32, 48, Said::Refused(6))?;
-    none(rt, three, 48, 48, Said::Refused(6))?;
-    none(rt, three, 64, 48, Said::Refused(6))?;
-    none(
+    read(rt, three, 15, 48, Err(Refusal::NotOnLine))?;
+    read(rt, three, 17, 48, Err(Refusal::NotOnLine))?;
+    read(rt, three, 32, 48, Err(Refusal::EntryTooShort))?;
+    read(rt, three, 48, 48, Err(Refusal::EntryTooShort))?;
+    read(rt, three, 64, 48, Err(Refusal::EntryTooShort))?;
+    read(
         rt,
         three,
         18446744073709551600,
         18446744073709551615,
-        Said::Refused(6),
+        Err(Refusal::EntryTooShort),
     )
 }
 
 // The order: 6 if under 8 bytes; 7; 6 if shorter than the data layout says; 8; 9.
 fn wrong_mark(rt: &impl Print, three: &[u8]) -> io::Result<()> {
-    judge::write(rt, b"read at a place, the insert's mark wrong\n")?;
-    none(rt, three, 0, 7, Said::Refused(6))?;
-    none(rt, three, 0, 8, Said::Refused(7))?;
-    none(rt, three, 0, 48, Said::Refused(7))
+    println!(rt; "read at a place, the insert's mark wrong")?;
+    read(rt, three, 0, 7, Err(Refusal::EntryTooShort))?;
+    read(rt, three, 0, 8, Err(Refusal::WrongMark))?;
+    read(rt, three, 0, 48, Err(Refusal::WrongMark))
 }
 
 fn wrong_checksum(rt: &impl Print, three: &[u8]) -> io::Result<()> {
-    judge::write(
-        rt,
-        b"read at a place, the insert's value changed and so its checksum wrong\n",
-    )?;
-    none(rt, three, 0, 12, Said::Refused(6))?;
-    none(rt, three, 0, 13, Said::Refused(8))
+    println!(rt; "read at a place, the insert's value changed and so its checksum wrong")?;
+    read(rt, three, 0, 12, Err(Refusal::EntryTooShort))?;
+    read(rt, three, 0, 13, Err(Refusal::WrongChecksum))
 }
 
 // "Checking type before checksum" would give 9.
 fn wrong_both(rt: &impl Print, three: &[u8]) -> io::Result<()> {
-    judge::write(
-        rt,
-        b"read at a place, the insert's type changed to 3 and so its checksum wrong\n",
-    )?;
-    none(rt, three, 0, 13, Said::Refused(8))
+    println!(rt; "read at a place, the insert's type changed to 3 and so its checksum wrong")?;
+    read(rt, three, 0, 13, Err(Refusal::WrongChecksum))
 }
 
 // The insert's fields with another type, each with the checksum that belongs to it.
@@ -129,24 +95,18 @@ const TYPE_3: [u8; 13] = [
 ];
 
 fn wrong_type(rt: &impl Print) -> io::Result<()> {
-    judge::write(
-        rt,
-        b"read at a place, type 2 and then type 3 in the data layout, the checksum right\n",
-    )?;
-    none(rt, &TYPE_2, 0, 13, Said::Refused(9))?;
-    none(rt, &TYPE_3, 0, 13, Said::Refused(9))?;
-    none(rt, &TYPE_3, 0, 12, Said::Refused(6))
+    println!(rt; "read at a place, type 2 and then type 3 in the data layout, the checksum right")?;
+    read(rt, &TYPE_2, 0, 13, Err(Refusal::TypeNotAllowed))?;
+    read(rt, &TYPE_3, 0, 13, Err(Refusal::TypeNotAllowed))?;
+    read(rt, &TYPE_3, 0, 12, Err(Refusal::EntryTooShort))
 }
 
 pub fn trials(rt: &impl Print) -> io::Result<()> {
-    let three = sample::three();
+    let three = sample::THREE;
     hints(rt, &three)?;
     places(rt, &three)?;
-    let first = sample::changed(0, 0xc1);
-    wrong_mark(rt, &first)?;
-    let second = sample::changed(8, 0x38);
-    wrong_checksum(rt, &second)?;
-    let third = sample::changed(3, 0xc1);
-    wrong_both(rt, &third)?;
+    wrong_mark(rt, &sample::changed(0, 0xc1))?;
+    wrong_checksum(rt, &sample::changed(8, 0x38))?;
+    wrong_both(rt, &sample::changed(3, 0xc1))?;
     wrong_type(rt)
 }

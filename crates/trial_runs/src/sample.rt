@@ -2,14 +2,17 @@
 // byte as its rules give them. The checksums come from elsewhere: Python's binascii.crc_hqx.
 ghost use Rattle.std.specs.Prelude.{◌≡◌, length};
 
+use answers::LogFile;
+use append::Item;
 use entry::Entry;
 
 // Document 01's trials are of a version 1 file, whose ordinal no mark depends on.
-pub const VERSION: u64 = 1;
+pub const FILE: LogFile = LogFile {
+    version: 1,
+    ordinal: 7,
+};
 
-pub const ORDINAL: u64 = 7;
-
-const THREE: [u8; 48] = [
+pub const THREE: [u8; 48] = [
     0xc0, 0x17, 0x5a, 0x01, 0x02, 0x00, 0x01, 0x00, 0x39, 0x41, 0x37, 0xbf, 0xdc, 0xff, 0xff, 0xff,
     0xc1, 0x17, 0x5a, 0x41, 0x02, 0x00, 0x02, 0x00, 0x31, 0x30, 0x41, 0x37, 0x0d, 0xa9, 0xff, 0xff,
     0xc2, 0x17, 0x5a, 0x81, 0x02, 0x00, 0x41, 0x37, 0xc0, 0x70, 0xff, 0xff, 0xff, 0xff, 0xff, 0xff,
@@ -28,21 +31,34 @@ pub const THIRTEEN: [u8; 13] = [
     0xc0, 0x17, 0x5a, 0x01, 0x02, 0x00, 0x01, 0x00, 0x39, 0x41, 0x37, 0xbf, 0xdc,
 ];
 
-pub fn three() -> [u8; 48]
-    ensures { 48 ≡ length result }
-{
-    THREE
+// One byte changed, where the bytes have it.
+pub fn change(bytes: &mut [u8], at: usize, byte: u8) {
+    if let Some(old) = bytes.get_mut(at) {
+        *old = byte;
+    }
 }
 
-// With one byte changed.
+// The three with one byte changed.
 pub fn changed(at: usize, byte: u8) -> [u8; 48]
     ensures { 48 ≡ length result }
 {
     let mut region = THREE;
-    if at < 48 {
-        region[at] = byte;
-    }
+    change(&mut region, at, byte);
     region
+}
+
+pub fn file(version: u64, ordinal: u64) -> LogFile {
+    LogFile { version, ordinal }
+}
+
+// What the trials append: the key A7 with this value.
+pub fn item(kind: u64, ns: u64, value: &[u8]) -> Item<'_> {
+    Item {
+        kind,
+        ns,
+        key: b"A7",
+        value,
+    }
 }
 
 pub fn insert() -> Entry {

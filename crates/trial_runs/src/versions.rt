@@ -1,215 +1,202 @@
 // Document 02, request 10: the calls that need a mark take version and ordinal. Any other version
 // than 1 and 2 gets 2, before all other refusals; in the header's writer 1 comes first.
-use crate::judge::Said;
-use crate::{appends, headers, judge, sample};
-use read::Reading;
-use scan::Walked;
+use crate::judge::{File, Found};
+use crate::sample::{file, item};
+use crate::{headers, judge, sample};
+use answers::{LogFile, Refusal, Stopped};
 use std::io;
-use tail::DurableEnd;
 
-fn begin(rt: &impl Print, version: u64, ordinal: u64) -> io::Result<()> {
-    judge::number(rt, b"  version ", version)?;
-    judge::number(rt, b", ordinal ", ordinal)
-}
-
-fn answer(rt: &impl Print, answered: Said, expected: Said) -> io::Result<()> {
-    judge::answer_by(rt, answered, expected, b"request 10")
-}
+const NEITHER: Stopped = Stopped::Refused(Refusal::WrongHeader);
 
 // The walk from 0 to the bound; of an entry, where it ends.
 fn walk(
     rt: &impl Print,
     region: &[u8],
-    version: u64,
-    ordinal: u64,
+    file: LogFile,
     bound: usize,
-    expected: Said,
+    expected: Result<Option<usize>, Stopped>,
 ) -> io::Result<()> {
-    begin(rt, version, ordinal)?;
-    judge::write(rt, b", walk")?;
-    let walked = scan::walk(region, version, ordinal, bound, 0);
-    match walked {
-        Walked::Found(e) => answer(rt, Said::Number(e.end as u64), expected),
-        Walked::End => answer(rt, Said::End, expected),
-        Walked::Refused(refusal) => answer(rt, judge::refused(refusal), expected),
-        Walked::UnknownAt(p) => answer(rt, Said::UnknownAt(p as u64), expected),
-    }
+    print!(rt; "  {}, walk", File(file))?;
+    let answered = scan::walk(region, file, bound, 0);
+    judge::answer(
+        rt,
+        answered.map(|found| Found(found.map(|e| e.end))),
+        expected.map(Found),
+        "request 10",
+    )
 }
 
 fn durable(
     rt: &impl Print,
     region: &[u8],
-    version: u64,
-    ordinal: u64,
+    file: LogFile,
     bound: usize,
-    expected: Said,
+    expected: Result<usize, Stopped>,
 ) -> io::Result<()> {
-    begin(rt, version, ordinal)?;
-    judge::write(rt, b", durable end")?;
-    let answered = tail::durable_end(region, version, ordinal, bound);
-    let end = answered.end;
-    match end {
-        DurableEnd::End(n) => answer(rt, Said::Number(n as u64), expected),
-        DurableEnd::Refused(refusal) => answer(rt, judge::refused(refusal), expected),
-        DurableEnd::UnknownAt(p) => answer(rt, Said::UnknownAt(p as u64), expected),
-    }
+    print!(rt; "  {}, durable end", File(file))?;
+    let answered = tail::durable_end(region, file, bound);
+    judge::answer(rt, answered.end, expected, "request 10")
 }
 
 fn read(
     rt: &impl Print,
     region: &[u8],
-    version: u64,
-    ordinal: u64,
+    file: LogFile,
     p: usize,
-    expected: Said,
+    expected: Result<usize, Refusal>,
 ) -> io::Result<()> {
-    begin(rt, version, ordinal)?;
-    judge::write(rt, b", read")?;
-    let reading = read::read_at(region, version, ordinal, p, 48);
-    match reading {
-        Reading::Data(e) => answer(rt, Said::Number(e.end as u64), expected),
-        Reading::Refused(refusal) => answer(rt, judge::refused(refusal), expected),
-    }
+    print!(rt; "  {}, read", File(file))?;
+    let answered = read::read_at(region, file, p, 48);
+    judge::answer(rt, answered.map(|e| e.end), expected, "request 10")
 }
 
 fn data(
     rt: &impl Print,
     region: &mut [u8],
-    version: u64,
-    ordinal: u64,
+    file: LogFile,
     used: usize,
     kind: u64,
     value: &[u8],
-    expected: Said,
+    expected: Result<usize, Refusal>,
 ) -> io::Result<()> {
-    begin(rt, version, ordinal)?;
-    judge::number(rt, b", append type ", kind)?;
-    let before = checksum::hash(region);
-    let answered = append::append_data(region, version, ordinal, used, kind, 1, b"A7", value);
-    let as_found = before == checksum::hash(region);
-    answer(rt, appends::said_of(answered, as_found), expected)
+    print!(rt; "  {}, append type {kind}", File(file))?;
+    let asked = item(kind, 1, value);
+    judge::written(
+        rt,
+        region,
+        |region| append::append_data(region, file, used, asked),
+        expected,
+        "request 10",
+    )
 }
 
 fn tombstone(
     rt: &impl Print,
     region: &mut [u8],
-    version: u64,
-    ordinal: u64,
+    file: LogFile,
     used: usize,
-    expected: Said,
+    expected: Result<usize, Refusal>,
 ) -> io::Result<()> {
-    begin(rt, version, ordinal)?;
-    judge::write(rt, b", append tombstone")?;
-    let before = checksum::hash(region);
-    let answered = append::append_tombstone(region, version, ordinal, used, 1, b"A7");
-    let as_found = before == checksum::hash(region);
-    answer(rt, appends::said_of(answered, as_found), expected)
+    print!(rt; "  {}, append tombstone", File(file))?;
+    judge::written(
+        rt,
+        region,
+        |region| append::append_tombstone(region, file, used, 1, b"A7"),
+        expected,
+        "request 10",
+    )
 }
 
-// Everything else is wrong too: the bound, the place, the used count and the type.
+// Everything else is wrong too: the bound, the place, the used count and the type. The version is a
+// number here, because it is one that no file has.
 fn neither(rt: &impl Print, region: &mut [u8], version: u64) -> io::Result<()> {
-    walk(rt, region, version, 7, 49, Said::Refused(2))?;
-    durable(rt, region, version, 7, 49, Said::Refused(2))?;
-    read(rt, region, version, 7, 1, Said::Refused(2))?;
-    data(rt, region, version, 7, 1, 2, b"9", Said::Refused(2))?;
-    tombstone(rt, region, version, 7, 1, Said::Refused(2))
+    let file = file(version, 7);
+    walk(rt, region, file, 49, Err(NEITHER))?;
+    durable(rt, region, file, 49, Err(NEITHER))?;
+    read(rt, region, file, 1, Err(Refusal::WrongHeader))?;
+    data(rt, region, file, 1, 2, b"9", Err(Refusal::WrongHeader))?;
+    tombstone(rt, region, file, 1, Err(Refusal::WrongHeader))
 }
 
 // 2^32 + 1 and 2^32 + 2 have a version's low four bytes.
 fn other_versions(rt: &impl Print) -> io::Result<()> {
-    judge::write(
-        rt,
-        b"version 0, 3, 257, 2^32 + 1, 2^32 + 2 and 2^64 - 1, and all else wrong too\n",
-    )?;
-    let mut region = sample::three();
-    neither(rt, &mut region, 0)?;
-    neither(rt, &mut region, 3)?;
-    neither(rt, &mut region, 257)?;
-    neither(rt, &mut region, 4294967297)?;
-    neither(rt, &mut region, 4294967298)?;
-    neither(rt, &mut region, 18446744073709551615)
+    println!(rt; "version 0, 3, 257, 2^32 + 1, 2^32 + 2 and 2^64 - 1, and all else wrong too")?;
+    let mut region = sample::THREE;
+    for version in [0, 3, 257, 4294967297, 4294967298, 18446744073709551615] {
+        neither(rt, &mut region, version)?;
+    }
+    Ok(())
 }
 
-fn write_header(rt: &impl Print, lent: &mut [u8], version: u64, expected: Said) -> io::Result<()> {
-    begin(rt, version, sample::ORDINAL)?;
-    judge::number(rt, b", write header, bytes ", lent.len() as u64)?;
-    answer(rt, headers::verdict_of(lent, version), expected)
+// The version is a number here, because it may be one that no file has.
+fn write_header(
+    rt: &impl Print,
+    lent: &mut [u8],
+    version: u64,
+    expected: Result<(), Refusal>,
+) -> io::Result<()> {
+    let file = file(version, 7);
+    print!(rt; "  {}, write header, bytes {}", File(file), lent.len())?;
+    headers::write_by(rt, lent, file, expected, "request 10")
 }
 
 fn header_writer(rt: &impl Print) -> io::Result<()> {
-    judge::write(rt, b"header writer, 1 before 2\n")?;
-    let mut shorter = [0x55u8; 4095];
-    write_header(rt, &mut shorter, 3, Said::Refused(1))?;
+    println!(rt; "header writer, 1 before 2")?;
+    write_header(rt, &mut [0x55u8; 4095], 3, Err(Refusal::HeaderTooShort))?;
     let mut whole = [0x55u8; 4096];
-    write_header(rt, &mut whole, 0, Said::Refused(2))?;
-    write_header(rt, &mut whole, 3, Said::Refused(2))?;
-    write_header(rt, &mut whole, 4294967298, Said::Refused(2))?;
-    write_header(rt, &mut whole, 2, Said::Accepted)?;
-    headers::read(rt, &whole, Said::Header(2, 7))
+    write_header(rt, &mut whole, 0, Err(Refusal::WrongHeader))?;
+    write_header(rt, &mut whole, 3, Err(Refusal::WrongHeader))?;
+    write_header(rt, &mut whole, 4294967298, Err(Refusal::WrongHeader))?;
+    write_header(rt, &mut whole, 2, Ok(()))?;
+    headers::read(rt, &whole, Ok(file(2, 7)))
 }
 
 // The three entries appended in version 2, and their bytes.
-fn three_in_version_2(rt: &impl Print, region: &mut [u8], ordinal: u64) -> io::Result<()> {
-    data(rt, region, 2, ordinal, 0, 0, b"9", Said::Number(16))?;
-    data(rt, region, 2, ordinal, 16, 1, b"10", Said::Number(32))?;
-    tombstone(rt, region, 2, ordinal, 32, Said::Number(48))?;
-    judge::write(rt, b"  the marks are 0x5A17C7, 0x5A17C8 and 0x5A17C9")?;
-    judge::holds_by(
-        rt,
-        &*region == sample::THREE_IN_VERSION_2.as_slice(),
-        b"request 10",
-    )
+fn three_in_version_2(rt: &impl Print, ordinal: u64) -> io::Result<()> {
+    let file = file(2, ordinal);
+    let mut region = [0; 48];
+    data(rt, &mut region, file, 0, 0, b"9", Ok(16))?;
+    data(rt, &mut region, file, 16, 1, b"10", Ok(32))?;
+    tombstone(rt, &mut region, file, 32, Ok(48))?;
+    print!(rt; "  the marks are 0x5A17C7, 0x5A17C8 and 0x5A17C9")?;
+    judge::holds(rt, region == sample::THREE_IN_VERSION_2, "request 10")
 }
 
 // 16,777,223 is 2^24 + 7.
 fn written(rt: &impl Print) -> io::Result<()> {
-    judge::write(
-        rt,
-        b"insert, update and tombstone in a version 2 file, of two ordinals with the same marks\n",
+    println!(rt;
+        "insert, update and tombstone in a version 2 file, of two ordinals with the same marks"
     )?;
-    let mut region = [0; 48];
-    three_in_version_2(rt, &mut region, 7)?;
-    let mut another = [0; 48];
-    three_in_version_2(rt, &mut another, 16777223)
+    three_in_version_2(rt, 7)?;
+    three_in_version_2(rt, 16777223)
 }
 
 // An entry that is left at its old place.
 fn recycled(rt: &impl Print) -> io::Result<()> {
-    judge::write(
-        rt,
-        b"the entries of ordinal 7 under other ordinals and under version 1\n",
-    )?;
+    println!(rt; "the entries of ordinal 7 under other ordinals and under version 1")?;
     let region = sample::THREE_IN_VERSION_2;
-    walk(rt, &region, 2, 7, 48, Said::Number(13))?;
-    walk(rt, &region, 2, 16777223, 48, Said::Number(13))?;
-    walk(rt, &region, 2, 8, 48, Said::End)?;
-    durable(rt, &region, 2, 7, 48, Said::Number(48))?;
-    durable(rt, &region, 2, 8, 48, Said::Number(0))?;
-    durable(rt, &region, 1, 7, 48, Said::Number(0))?;
-    read(rt, &region, 2, 7, 0, Said::Number(13))?;
-    read(rt, &region, 2, 8, 0, Said::Refused(7))?;
-    read(rt, &region, 1, 7, 0, Said::Refused(7))
+    walk(rt, &region, file(2, 7), 48, Ok(Some(13)))?;
+    walk(rt, &region, file(2, 16777223), 48, Ok(Some(13)))?;
+    walk(rt, &region, file(2, 8), 48, Ok(None))?;
+    durable(rt, &region, file(2, 7), 48, Ok(48))?;
+    durable(rt, &region, file(2, 8), 48, Ok(0))?;
+    durable(rt, &region, file(1, 7), 48, Ok(0))?;
+    read(rt, &region, file(2, 7), 0, Ok(13))?;
+    read(rt, &region, file(2, 8), 0, Err(Refusal::WrongMark))?;
+    read(rt, &region, file(1, 7), 0, Err(Refusal::WrongMark))
 }
 
 // Version 1 has the marks of version 2 with an ordinal that is 0 modulo 2^24, and no others.
 fn of_version_1(rt: &impl Print) -> io::Result<()> {
-    judge::write(rt, b"the entries of version 1 under version 2\n")?;
-    let region = sample::three();
-    durable(rt, &region, 1, 18446744073709551615, 48, Said::Number(48))?;
-    durable(rt, &region, 2, 0, 48, Said::Number(48))?;
-    durable(rt, &region, 2, 16777216, 48, Said::Number(48))?;
-    durable(rt, &region, 2, 1, 48, Said::Number(0))
+    println!(rt; "the entries of version 1 under version 2")?;
+    let region = sample::THREE;
+    durable(rt, &region, file(1, 18446744073709551615), 48, Ok(48))?;
+    durable(rt, &region, file(2, 0), 48, Ok(48))?;
+    durable(rt, &region, file(2, 16777216), 48, Ok(48))?;
+    durable(rt, &region, file(2, 1), 48, Ok(0))
 }
 
 // Ordinal 0xA5E83F gives offset 0 the mark 0xFFFFFF, so a line of 0xff is one of type 3 there.
 fn erased(rt: &impl Print) -> io::Result<()> {
-    judge::write(rt, b"16 bytes of 0xff\n")?;
+    println!(rt; "16 bytes of 0xff")?;
     let region = [0xffu8; 16];
-    walk(rt, &region, 2, 10872894, 16, Said::End)?;
-    walk(rt, &region, 2, 10872895, 16, Said::UnknownAt(0))?;
-    durable(rt, &region, 2, 10872895, 16, Said::UnknownAt(0))?;
-    walk(rt, &region, 2, 10872896, 16, Said::End)?;
-    walk(rt, &region, 1, 10872895, 16, Said::End)
+    walk(rt, &region, file(2, 10872894), 16, Ok(None))?;
+    walk(
+        rt,
+        &region,
+        file(2, 10872895),
+        16,
+        Err(Stopped::UnknownAt(0)),
+    )?;
+    durable(
+        rt,
+        &region,
+        file(2, 10872895),
+        16,
+        Err(Stopped::UnknownAt(0)),
+    )?;
+    walk(rt, &region, file(2, 10872896), 16, Ok(None))?;
+    walk(rt, &region, file(1, 10872895), 16, Ok(None))
 }
 
 pub fn trials(rt: &impl Print) -> io::Result<()> {

@@ -1,163 +1,134 @@
 // The walk and the durable end, refusals 4 and 10, and the key and the value as parts of the region.
-use crate::judge::Said;
+use crate::judge::{Found, Listed};
 use crate::{judge, sample};
+use answers::{Refusal, Stopped};
 use entry::Entry;
-use scan::Walked;
 use std::io;
-use tail::DurableEnd;
 
-fn begin(rt: &impl Print, length: usize, bound: usize, from: usize) -> io::Result<()> {
-    judge::number(rt, b"  walk ", length as u64)?;
-    judge::number(rt, b" bytes, bound ", bound as u64)?;
-    judge::number(rt, b", from ", from as u64)
-}
-
-// A walk that finds no entry.
-pub fn none(
+pub fn walk(
     rt: &impl Print,
     region: &[u8],
     bound: usize,
     from: usize,
-    expected: Said,
+    expected: Result<Option<Entry>, Stopped>,
 ) -> io::Result<()> {
-    begin(rt, region.len(), bound, from)?;
-    let walked = scan::walk(region, sample::VERSION, sample::ORDINAL, bound, from);
-    match walked {
-        Walked::Found(_) => judge::another_kind(rt),
-        Walked::End => judge::answer(rt, Said::End, expected),
-        Walked::Refused(refusal) => judge::answer(rt, judge::refused(refusal), expected),
-        Walked::UnknownAt(p) => judge::answer(rt, Said::UnknownAt(p as u64), expected),
-    }
+    print!(rt; "  walk {} bytes, bound {bound}, from {from}", region.len())?;
+    let answered = scan::walk(region, sample::FILE, bound, from);
+    judge::answer(
+        rt,
+        answered.map(|found| Found(found.map(Listed))),
+        expected.map(|found| Found(found.map(Listed))),
+        "document 01",
+    )
 }
 
-// A walk that finds one.
-pub fn one(
+pub fn durable(
     rt: &impl Print,
     region: &[u8],
     bound: usize,
-    from: usize,
-    expected: Entry,
+    expected: Result<usize, Stopped>,
 ) -> io::Result<()> {
-    begin(rt, region.len(), bound, from)?;
-    let walked = scan::walk(region, sample::VERSION, sample::ORDINAL, bound, from);
-    match walked {
-        Walked::Found(e) => judge::found(rt, e, expected),
-        _ => judge::another_kind(rt),
-    }
-}
-
-pub fn durable(rt: &impl Print, region: &[u8], bound: usize, expected: Said) -> io::Result<()> {
-    judge::number(rt, b"  durable end of ", region.len() as u64)?;
-    judge::number(rt, b" bytes, bound ", bound as u64)?;
-    let answered = tail::durable_end(region, sample::VERSION, sample::ORDINAL, bound);
-    let end = answered.end;
-    match end {
-        DurableEnd::End(n) => judge::answer(rt, Said::Number(n as u64), expected),
-        DurableEnd::Refused(refusal) => judge::answer(rt, judge::refused(refusal), expected),
-        DurableEnd::UnknownAt(p) => judge::answer(rt, Said::UnknownAt(p as u64), expected),
-    }
+    print!(rt; "  durable end of {} bytes, bound {bound}", region.len())?;
+    let answered = tail::durable_end(region, sample::FILE, bound);
+    judge::answer(rt, answered.end, expected, "document 01")
 }
 
 pub fn parts(rt: &impl Print, region: &[u8], e: Entry, key: &[u8], value: &[u8]) -> io::Result<()> {
-    judge::number(rt, b"  in ", region.len() as u64)?;
-    judge::number(rt, b" bytes, key of the entry at ", e.offset as u64)?;
+    print!(rt;
+        "  in {} bytes, key of the entry at {}",
+        region.len(),
+        e.offset
+    )?;
     judge::bytes(rt, scan::key_of(region, e), key)?;
-    judge::number(rt, b"  in ", region.len() as u64)?;
-    judge::number(rt, b" bytes, value of the entry at ", e.offset as u64)?;
+    print!(rt;
+        "  in {} bytes, value of the entry at {}",
+        region.len(),
+        e.offset
+    )?;
     judge::bytes(rt, scan::value_of(region, e), value)
 }
 
+pub const PAST_REGION: Stopped = Stopped::Refused(Refusal::BoundPastRegion);
+
 fn offsets(rt: &impl Print, three: &[u8]) -> io::Result<()> {
-    judge::write(rt, b"walk, insert, update and tombstone in 48 bytes\n")?;
-    one(rt, three, 48, 0, sample::insert())?;
-    one(rt, three, 48, 1, sample::update())?;
-    one(rt, three, 48, 13, sample::update())?;
-    one(rt, three, 48, 16, sample::update())?;
-    one(rt, three, 48, 17, sample::tombstone())?;
-    none(rt, three, 48, 42, Said::End)?;
-    none(rt, three, 48, 48, Said::End)?;
-    none(rt, three, 48, 18446744073709551615, Said::End)
+    println!(rt; "walk, insert, update and tombstone in 48 bytes")?;
+    walk(rt, three, 48, 0, Ok(Some(sample::insert())))?;
+    walk(rt, three, 48, 1, Ok(Some(sample::update())))?;
+    walk(rt, three, 48, 13, Ok(Some(sample::update())))?;
+    walk(rt, three, 48, 16, Ok(Some(sample::update())))?;
+    walk(rt, three, 48, 17, Ok(Some(sample::tombstone())))?;
+    walk(rt, three, 48, 42, Ok(None))?;
+    walk(rt, three, 48, 48, Ok(None))?;
+    walk(rt, three, 48, 18446744073709551615, Ok(None))
 }
 
 // A bound counts where an entry begins, and not where it ends. 4 comes before End.
 fn bounds(rt: &impl Print, three: &[u8]) -> io::Result<()> {
-    one(rt, three, 47, 30, sample::tombstone())?;
-    one(rt, three, 33, 30, sample::tombstone())?;
-    none(rt, three, 32, 30, Said::End)?;
-    none(rt, three, 0, 0, Said::End)?;
-    none(rt, three, 49, 0, Said::Refused(4))?;
-    none(rt, three, 49, 49, Said::Refused(4))?;
-    none(rt, three, 18446744073709551615, 0, Said::Refused(4))
+    walk(rt, three, 47, 30, Ok(Some(sample::tombstone())))?;
+    walk(rt, three, 33, 30, Ok(Some(sample::tombstone())))?;
+    walk(rt, three, 32, 30, Ok(None))?;
+    walk(rt, three, 0, 0, Ok(None))?;
+    walk(rt, three, 49, 0, Err(PAST_REGION))?;
+    walk(rt, three, 49, 49, Err(PAST_REGION))?;
+    walk(rt, three, 18446744073709551615, 0, Err(PAST_REGION))
 }
 
 fn durable_ends(rt: &impl Print, three: &[u8]) -> io::Result<()> {
-    durable(rt, three, 49, Said::Refused(4))?;
-    durable(rt, three, 48, Said::Number(48))?;
-    durable(rt, three, 17, Said::Number(32))?;
-    durable(rt, three, 16, Said::Number(16))?;
-    durable(rt, three, 0, Said::Number(0))
+    durable(rt, three, 49, Err(PAST_REGION))?;
+    durable(rt, three, 48, Ok(48))?;
+    durable(rt, three, 17, Ok(32))?;
+    durable(rt, three, 16, Ok(16))?;
+    durable(rt, three, 0, Ok(0))
 }
 
 // Places that the region doesn't hold give an empty part.
-fn keys_and_values(rt: &impl Print, three: &[u8]) -> io::Result<()> {
+fn keys_and_values(rt: &impl Print, three: &[u8; 48]) -> io::Result<()> {
     parts(rt, three, sample::update(), b"A7", b"10")?;
     parts(rt, three, sample::tombstone(), b"A7", b"")?;
-    parts(
-        rt,
-        judge::start_of(three, 28),
-        sample::update(),
-        b"A7",
-        b"10",
-    )?;
-    parts(rt, judge::start_of(three, 27), sample::update(), b"", b"10")?;
-    parts(rt, judge::start_of(three, 25), sample::update(), b"", b"")
+    parts(rt, &three[..28], sample::update(), b"A7", b"10")?;
+    parts(rt, &three[..27], sample::update(), b"", b"10")?;
+    parts(rt, &three[..25], sample::update(), b"", b"")
 }
 
 // The entry has to lie within the region.
-fn cut(rt: &impl Print, three: &[u8]) -> io::Result<()> {
-    one(rt, judge::start_of(three, 42), 42, 30, sample::tombstone())?;
-    none(rt, judge::start_of(three, 41), 41, 30, Said::End)
+fn cut(rt: &impl Print, three: &[u8; 48]) -> io::Result<()> {
+    walk(rt, &three[..42], 42, 30, Ok(Some(sample::tombstone())))?;
+    walk(rt, &three[..41], 41, 30, Ok(None))
 }
 
 // A wrong checksum: the next line is tried.
 fn torn(rt: &impl Print, three: &[u8]) -> io::Result<()> {
-    judge::write(
-        rt,
-        b"walk, the update's value changed and so its checksum wrong\n",
-    )?;
-    one(rt, three, 48, 13, sample::tombstone())?;
-    durable(rt, three, 48, Said::Number(48))
+    println!(rt; "walk, the update's value changed and so its checksum wrong")?;
+    walk(rt, three, 48, 13, Ok(Some(sample::tombstone())))?;
+    durable(rt, three, 48, Ok(48))
 }
 
 // Type 3, whatever the checksum, which is wrong here.
 fn unknown(rt: &impl Print, three: &[u8]) -> io::Result<()> {
-    judge::write(rt, b"walk, the update's type changed to 3\n")?;
-    one(rt, three, 48, 0, sample::insert())?;
-    none(rt, three, 48, 13, Said::UnknownAt(16))?;
-    none(rt, three, 16, 13, Said::End)?;
-    one(rt, three, 48, 17, sample::tombstone())?;
-    durable(rt, three, 48, Said::UnknownAt(16))?;
-    durable(rt, three, 16, Said::Number(16))
+    println!(rt; "walk, the update's type changed to 3")?;
+    walk(rt, three, 48, 0, Ok(Some(sample::insert())))?;
+    walk(rt, three, 48, 13, Err(Stopped::UnknownAt(16)))?;
+    walk(rt, three, 16, 13, Ok(None))?;
+    walk(rt, three, 48, 17, Ok(Some(sample::tombstone())))?;
+    durable(rt, three, 48, Err(Stopped::UnknownAt(16)))?;
+    durable(rt, three, 16, Ok(16))
 }
 
 // Fewer than 8 bytes left end the walk, even where a line of type 3 begins with them.
-fn unknown_last(rt: &impl Print, three: &[u8]) -> io::Result<()> {
-    judge::write(rt, b"walk, the tombstone's type changed to 3\n")?;
-    none(rt, judge::start_of(three, 40), 40, 30, Said::UnknownAt(32))?;
-    none(rt, judge::start_of(three, 39), 39, 30, Said::End)
+fn unknown_last(rt: &impl Print, three: &[u8; 48]) -> io::Result<()> {
+    println!(rt; "walk, the tombstone's type changed to 3")?;
+    walk(rt, &three[..40], 40, 30, Err(Stopped::UnknownAt(32)))?;
+    walk(rt, &three[..39], 39, 30, Ok(None))
 }
 
 pub fn trials(rt: &impl Print) -> io::Result<()> {
-    let three = sample::three();
+    let three = sample::THREE;
     offsets(rt, &three)?;
     bounds(rt, &three)?;
     durable_ends(rt, &three)?;
     keys_and_values(rt, &three)?;
     cut(rt, &three)?;
-    let first = sample::changed(24, 0x32);
-    torn(rt, &first)?;
-    let second = sample::changed(19, 0xc1);
-    unknown(rt, &second)?;
-    let third = sample::changed(35, 0xc1);
-    unknown_last(rt, &third)
+    torn(rt, &sample::changed(24, 0x32))?;
+    unknown(rt, &sample::changed(19, 0xc1))?;
+    unknown_last(rt, &sample::changed(35, 0xc1))
 }

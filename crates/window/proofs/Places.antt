@@ -6,21 +6,17 @@ use mathlib.Core.List.{List}
 use Prim.Native.Nat.{ℕ, ◌+◌, ◌-◌, ◌*◌, ◌^◌, ◌<◌, ◌≤◌}
 use native.Mathlib.Nat.{eq-or-lt_of_le}
 use native.Mathlib.Omega.{arith}
-use lib.ListN.{length, take, drop, get_or, set, length-set}
+use lib.Dec.{lit<}
+use lib.ListN.{length, take, drop, get_or, set}
 use lib.Pow.{pow-add}
 use lib.Seq.{get_or-set_same, get_or-set_other, take-add, drop-drop}
-use Rattle.checksum.specs.Catalogue.{crc_from}
+use Rattle.checksum.specs.Catalogue.{steps, crc_from}
+use Rattle.checksum.proofs.Linear.{steps_lt}
 use Rattle.checksum.proofs.Runs.{crc_from_append}
 use Rattle.folds.specs.Leaves.{Same}
-use Rattle.folds.proofs.Congruence.{same_of, same_trans, same_shift}
-use Rattle.window.specs.Windows.{Powers, Keeps, Reaches, Times}
+use Rattle.folds.proofs.Congruence.{same_of, same_sym, same_trans, same_shift, same_low, same_steps}
+use Rattle.window.specs.Windows.{Registers, PowersLeft, Times}
 use Rattle.window.proofs.Products.{power_right}
-
--- ---- the caller's law
-
--- a window that isn't open is right whatever stands in it
-pub keeps_none : (registers powers s : List ℕ) (base : ℕ) → Keeps registers powers s base 0
-keeps_none registers powers s base = record { room = omega arith; window = λ j h. absurd (omega arith); powers = λ h. absurd (omega arith) }
 
 -- ---- a store adds a place: what holds of each before it, and of what is stored there, holds of one more
 
@@ -34,20 +30,27 @@ one_more P l n r room all this j h =
 
 -- ---- the powers
 
-pub powers_first : (l : List ℕ) → length l ≡ 1024 → Powers (set l 0 1) 1
-powers_first l h =
-    record { at = one_more (λ j x. Same x (2 ^ (2048 * j))) l 0 1 (omega arith) (λ j lt. absurd (omega arith)) (same_of refl) }
+pub powers_first : (l : List ℕ) → 0 < length l → PowersLeft (set l 0 1) 1
+unfolding steps
+powers_first l h = one_more (λ j x. x ≡ steps (2048 * j) 1) l 0 1 h (λ j lt. absurd (omega arith)) refl
 
-pub powers_more : {l : List ℕ} {n r : ℕ} → length l ≡ 1024 → 0 < n → n < 1024 → Powers l n → Times (get_or l (n - 1) 0) 64848 r
-    → Powers (set l n r) (n + 1)
-powers_more {l} {n} {r} whole some room w t =
+-- what the power at a place leaves
+pub power_at : (l : List ℕ) {n : ℕ} → PowersLeft l n → (j : ℕ) → j < n → Same (get_or l j 0) (2 ^ (2048 * j))
+power_at l w j h =
+    let one : 1 * 2 ^ (2048 * j) ≡ 2 ^ (2048 * j) = omega arith in
+    same_trans (same_of (w j h)) (same_trans (same_sym (same_steps (2048 * j) 1 (lit< tt))) (same_of one))
+
+pub powers_more : (l : List ℕ) {n r : ℕ} → n < length l → 0 < n → PowersLeft l n → Times (get_or l (n - 1) 0) 64848 r
+    → PowersLeft (set l n r) (n + 1)
+powers_more l {n} {r} room some w t =
     let e : 2048 * (n - 1) + 2048 ≡ 2048 * n = omega arith in
-    record {
-      at = one_more (λ j x. Same x (2 ^ (2048 * j))) l n r (omega arith) w.at
-          (same_trans (t.by 2048 power_right)
-          (same_trans (same_shift 2048 (w.at (n - 1) (omega arith)))
-          (same_of (sym (pow-add 2 (2048 * (n - 1)) 2048) ∙ ap (λ (i : ℕ). 2 ^ i) e))));
-    }
+    let one : 1 * 2 ^ (2048 * n) ≡ 2 ^ (2048 * n) = omega arith in
+    one_more (λ j x. x ≡ steps (2048 * j) 1) l n r room w
+    (same_low t.low (steps_lt (2048 * n) 1 (lit< tt))
+    (same_trans (t.by 2048 power_right)
+    (same_trans (same_shift 2048 (power_at l w (n - 1) (omega arith)))
+    (same_trans (same_of (sym (pow-add 2 (2048 * (n - 1)) 2048) ∙ ap (λ (i : ℕ). 2 ^ i) e ∙ sym one))
+    (same_steps (2048 * n) 1 (lit< tt))))))
 
 -- ---- the registers
 
@@ -63,35 +66,24 @@ run_on r a b c s h k =
     ∙ ap (λ (l : List ℕ). crc_from (crc_from r (take (b - a) (drop a s))) (take (c - b) l)) (drop-drop (b - a) a s ∙ ap (λ (n : ℕ). drop n s) there)
 
 -- a register, by where its bytes end
-pub register_at : {l s : List ℕ} {base n last : ℕ} → Reaches l s base n last → (j : ℕ) → j < n
+pub register_at : (l s : List ℕ) (base : ℕ) {n : ℕ} → Registers l s base n → (j : ℕ) → j < n
     → get_or l j 0 ≡ crc_from 0 (take (base + 256 * j - base) (drop base s))
-register_at {s = s} {base} w j h =
+register_at l s base w j h =
     let e : 256 * j ≡ base + 256 * j - base = omega arith in
-    w.window j h ∙ ap (λ (n : ℕ). crc_from 0 (take n (drop base s))) e
+    w j h ∙ ap (λ (n : ℕ). crc_from 0 (take n (drop base s))) e
 
-pub reaches_first : (l s : List ℕ) (base : ℕ) → length l ≡ 1024 → Reaches (set l 0 0) s base 1 0
+pub registers_first : (l s : List ℕ) (base : ℕ) → 0 < length l → Registers (set l 0 0) s base 1
 unfolding crc_from
-reaches_first l s base h =
-    record {
-      whole = length-set l 0 0 ∙ h;
-      room = omega arith;
-      window = one_more (λ j x. x ≡ crc_from 0 (take (256 * j) (drop base s))) l 0 0 (omega arith) (λ j lt. absurd (omega arith)) refl;
-      far = omega arith;
-    }
+registers_first l s base h =
+    one_more (λ j x. x ≡ crc_from 0 (take (256 * j) (drop base s))) l 0 0 h (λ j lt. absurd (omega arith)) refl
 
-pub reaches_more : {l s : List ℕ} {base n r : ℕ} → Reaches l s base n 0 → n < 1024
+pub registers_more : (l s : List ℕ) (base n r : ℕ) → n < length l → 0 < n → Registers l s base n
     → let at = base + 256 * (n - 1) in r ≡ crc_from (get_or l (n - 1) 0) (take (at + 256 - at) (drop at s))
-    → Reaches (set l n r) s base (n + 1) 0
-reaches_more {l} {s} {base} {n} {r} w room e =
+    → Registers (set l n r) s base (n + 1)
+registers_more l s base n r room some w e =
     let at = base + 256 * (n - 1) in
-    let some : 0 < n = w.far in
     let next : at + 256 - base ≡ 256 * n = omega arith in
-    record {
-      whole = length-set l n r ∙ w.whole;
-      room = omega arith;
-      window = one_more (λ j x. x ≡ crc_from 0 (take (256 * j) (drop base s))) l n r (omega (arith, w.whole)) w.window
-          (e ∙ ap (λ (x : ℕ). crc_from x (take (at + 256 - at) (drop at s))) (register_at w (n - 1) (omega arith))
-          ∙ sym (run_on 0 base at (at + 256) s (omega arith) (omega arith))
-          ∙ ap (λ (k : ℕ). crc_from 0 (take k (drop base s))) next);
-      far = omega arith;
-    }
+    one_more (λ j x. x ≡ crc_from 0 (take (256 * j) (drop base s))) l n r room w
+    (e ∙ ap (λ (x : ℕ). crc_from x (take (at + 256 - at) (drop at s))) (register_at l s base w (n - 1) (omega arith))
+    ∙ sym (run_on 0 base at (at + 256) s (omega arith) (omega arith))
+    ∙ ap (λ (k : ℕ). crc_from 0 (take k (drop base s))) next)

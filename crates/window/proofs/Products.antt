@@ -2,7 +2,7 @@
 -- Assumes nothing.
 use mathlib.Core.Path.{◌≡◌, refl, sym, ap, subst, ◌∙◌}
 use Prim.Native.Nat.{ℕ, zero, suc, ◌+◌, ◌-◌, ◌*◌, ◌/◌, ◌%◌, ◌^◌, ◌<◌}
-use native.Mathlib.Nat.{mul_right_comm, mod-lt, div-eq_of_lt, div-one}
+use native.Mathlib.Nat.{mul_right_comm, mod-lt, div-one}
 use native.Mathlib.Omega.{arith}
 use lib.Dec.{lit<}
 use lib.Pow.{shr-shr, split}
@@ -38,11 +38,11 @@ digit_same b c (suc (suc d)) h p = absurd (omega arith)
 
 -- ---- a product: of no digits, of one more, and of all
 
-pub times_none : (a b : ℕ) → a < 2 ^ 16 → Times (a / 2 ^ 16) b 0
+pub times_none : (a b : ℕ) → a ≡ 0 → Times a b 0
 times_none a b h =
     record {
       low = lit< tt;
-      by = λ e p. let none : 0 ≡ 0 * 2 ^ e = omega arith in same_of (none ∙ ap (λ (x : ℕ). x * 2 ^ e) (sym (div-eq_of_lt h)));
+      by = λ e p. let none : 0 ≡ 0 * 2 ^ e = omega arith in same_of (none ∙ ap (λ (x : ℕ). x * 2 ^ e) (sym h));
     }
 
 next_digit : (a k : ℕ) → a / 2 ^ (k + 1) * 2 + a / 2 ^ k % 2 ≡ a / 2 ^ k

@@ -16,7 +16,7 @@ use Rattle.checksum.proofs.Runs.{crc_from_lt, crc16_lt}
 use Rattle.checksum.proofs.Bytes.{bytes_take, bytes_drop}
 use Rattle.folds.specs.Leaves.{Same}
 use Rattle.folds.proofs.Congruence.{same_trans, same_low, same_steps}
-use Rattle.window.specs.Windows.{Powers, Reaches, Times}
+use Rattle.window.specs.Windows.{Registers, Times}
 use Rattle.window.proofs.Places.{run_on, register_at}
 
 -- ---- what is added to the register before a run is added to the one after it, eight bits on for each byte
@@ -54,7 +54,7 @@ another_start q r z {bs} hq hr hz hb p =
 
 -- ---- the whole stretch, as the code joins it
 
-module _ {l w s : List ℕ} {base count p e : ℕ} (reaches : Reaches l s base count ((e - base) / 256)) (powers : Powers w 1024) (bytes : AreBytes s) (starts : base ≤ p) (long : p + 256 ≤ e) (fits : e ≤ length s) where
+module _ (l w s : List ℕ) {base count p e : ℕ} (room : count ≤ 1024) (taken : Registers l s base count) (reaches : (e - base) / 256 < count) (powers : (j : ℕ) → j < 1024 → Same (get_or w j 0) (2 ^ (2048 * j))) (bytes : AreBytes s) (starts : base ≤ p) (long : p + 256 ≤ e) (fits : e ≤ length s) where
   pub joined : (before z : ℕ)
       → let low = (p - base + 255) / 256 in let high = (e - base) / 256 in let first = base + 256 * low in let last = base + 256 * high in
       before ≡ crc16 (take (first - p) (drop p s)) → Times (bit_xor (get_or l low 0) before) (get_or w (high - low) 0) z
@@ -66,9 +66,9 @@ module _ {l w s : List ℕ} {base count p e : ℕ} (reaches : Reaches l s base c
       let first = base + 256 * low in
       let last = base + 256 * high in
       let between = take (last - first) (drop first s) in
-      let lows : get_or l low 0 ≡ crc_from 0 (take (first - base) (drop base s)) = register_at reaches low (omega (arith, reaches.far)) in
+      let lows : get_or l low 0 ≡ crc_from 0 (take (first - base) (drop base s)) = register_at l s base taken low (omega arith) in
       let highs : get_or l high 0 ≡ crc_from (get_or l low 0) between =
-      register_at reaches high reaches.far
+      register_at l s base taken high reaches
       ∙ run_on 0 base first last s (omega arith) (omega arith)
       ∙ ap (λ (x : ℕ). crc_from x between) (sym lows) in
       let sized : length between ≡ last - first = length-take-le (last - first) (drop first s) (simp length-drop (omega arith)) in
@@ -77,7 +77,7 @@ module _ {l w s : List ℕ} {base count p e : ℕ} (reaches : Reaches l s base c
       let before-lt : before < 2 ^ 16 = subst (λ (x : ℕ). x < 2 ^ 16) (sym summed) (crc16_lt (take (first - p) (drop p s))) in
       let moved : Same z (bit_xor (get_or l low 0) before * 2 ^ (8 * length between)) =
       subst (λ (k : ℕ). Same z (bit_xor (get_or l low 0) before * 2 ^ k)) bits
-      (t.by (2048 * (high - low)) (powers.at (high - low) (omega (arith, reaches.far, reaches.room)))) in
+      (t.by (2048 * (high - low)) (powers (high - low) (omega arith))) in
       sym
       (run_on 0xffff p first e s (omega arith) (omega arith)
       ∙ ap (λ (x : ℕ). crc_from x (take (e - first) (drop first s))) (sym summed)

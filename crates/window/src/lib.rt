@@ -1,36 +1,34 @@
 // The checksum of any long stretch of a region, in a time that doesn't grow with the stretch.
-//
-// The window has the registers of the bytes from its base on, one for every 256 bytes, and beside
-// them stand the powers of x ^ 2048. Both are lent by the caller, who keeps between calls where the
-// window begins and how many of its registers are there.
 #![tactic(auto)]
 
-ghost use Rattle.std.specs.Prelude.{◌≡◌, ◌+◌, ◌-◌, ◌*◌, ◌/◌, ◌<◌, ◌≤◌, length, take, drop};
+ghost use Rattle.std.specs.Prelude.{◌≡◌, ℕ, ◌+◌, ◌-◌, ◌*◌, ◌/◌, ◌<◌, ◌≤◌, length, slice_index, take, drop};
 ghost use Rattle.checksum.specs.Catalogue.{step, crc16};
-ghost use Rattle.window.specs.Windows.{Powers, Keeps, Reaches, Times};
+ghost use Rattle.window.specs.Windows.{Registers, PowersLeft, Times};
 
 // As many registers, and as many powers.
-pub const PLACES: usize = 1024;
+const PLACES: usize = 1024;
 // Bytes between two registers.
-pub const APART: usize = 256;
+const APART: usize = 256;
 // What x ^ 2048 leaves.
 const POWER: u16 = 64848;
 
-// Where the window begins, and how many of its registers are there: none before it is opened.
-#[derive(Clone, Copy)]
-pub struct Held {
-    pub base: usize,
-    pub count: usize,
-}
-
-// A sum, and where the window stands after it.
-#[derive(Clone, Copy)]
-pub struct Summed {
-    pub sum: u16,
-    pub held: Held,
+// The registers of a region's bytes from the base on, one for every 256 bytes, and the powers of
+// x ^ 2048. `count` registers are there, and as soon as there is one, the powers are there too.
+#[derive(Drop)]
+pub struct Window<'a> {
+    pub region: &'a [u8],
+    registers: [u16; PLACES],
+    powers: [u16; PLACES],
+    base: usize,
+    count: usize,
+    ghost bytes: { (i : ℕ) → slice_index region.now i < 256 },
+    ghost room: { count ≤ 1024 },
+    ghost taken: { Registers registers region.now base count },
+    ghost known: { 0 < count → PowersLeft powers 1024 },
 }
 
 // The register after one bit.
+#[tactic(auto, using(crate::proofs::Products::taken_times), unfolding(checksum::specs::Catalogue::step))]
 fn double(r: u16) -> u16
     ensures { result ≡ step r }
 {
@@ -40,119 +38,101 @@ fn double(r: u16) -> u16
 // What a product leaves: for each binary digit of the first factor, the highest first, what is
 // there is doubled, and the second factor is added where the digit is 1. To multiply by a digit
 // costs less than a branch that goes either way.
+#[tactic(auto, using(crate::proofs::Products::times_none, crate::proofs::Products::times_more))]
 fn mul(a: u16, b: u16) -> u16
     ensures { Times a b result }
 {
     let mut r: u16 = 0;
-    let mut k: u32 = 16;
-    while 0 < k {
-        k -= 1;
+    for k in (0..16u32).rev() {
         r = double(r) ^ (b * ((a >> k) % 2));
     }
     r
 }
 
-// The powers, each from the one before it.
-fn fill_powers(powers: &mut [u16])
-    requires { length powers.old ≡ 1024 }
-    ensures { (length powers.new ≡ 1024) × Powers powers.new 1024 }
-{
-    powers[0] = 1;
-    let mut j = 1;
-    while j < PLACES {
-        powers[j] = mul(powers[j - 1], POWER);
-        j += 1;
-    }
-}
-
-// The registers up to the place `last`, each from the one before it. Tells how many are there then.
-fn widen(registers: &mut [u16], s: &[u8], base: usize, count: usize, last: usize) -> usize
-    requires { Reaches registers.old s.now base count 0 × (last < 1024) × (base + 256 * last ≤ length s.now) }
-    ensures { Reaches registers.new s.now base result last }
-{
-    let mut n = count;
-    while n <= last {
-        let at = base + APART * (n - 1);
-        registers[n] = folds::sum_on(registers[n - 1], &s[at..at + APART]);
-        n += 1;
-    }
-    n
-}
-
-// A window that isn't open yet, or that begins too late, begins at `from`, with the powers and the
-// register after no bytes.
-fn open(registers: &mut [u16], powers: &mut [u16], s: &[u8], held: Held, from: usize) -> Held
-    requires { (length registers.old ≡ 1024) × (length powers.old ≡ 1024) × Keeps registers.old powers.old s.now held.base held.count }
-    ensures { Reaches registers.new s.now result.base result.count 0 × (result.base ≤ from) × (length powers.new ≡ 1024) × Powers powers.new 1024 }
-{
-    let base = held.base;
-    let count = held.count;
-    if base <= from {
-        if 0 < count {
-            return Held { base, count };
+impl<'a> Window<'a> {
+    // A window on these bytes that isn't open yet: it has no registers.
+    pub fn on(region: &'a [u8]) -> Window<'a>
+        ensures { result.region.now ≡ region.now }
+    {
+        Window {
+            region,
+            registers: [0; PLACES],
+            powers: [0; PLACES],
+            base: 0,
+            count: 0,
         }
     }
-    fill_powers(powers);
-    registers[0] = 0;
-    Held {
-        base: from,
-        count: 1,
-    }
-}
 
-// An open window is made to reach to `to`: it is widened, or where it has too few places for that,
-// begun anew at `from`.
-fn cover(registers: &mut [u16], s: &[u8], held: Held, from: usize, to: usize) -> Held
-    requires { Reaches registers.old s.now held.base held.count 0 × (held.base ≤ from) × (from ≤ to) × (to < from + 262144) × (to ≤ length s.now) }
-    ensures { Reaches registers.new s.now result.base result.count ((to - result.base) / 256) × (result.base ≤ from) }
-{
-    let base = held.base;
-    let count = held.count;
-    if to - base < PLACES * APART {
-        let wider = widen(registers, s, base, count, (to - base) / APART);
-        return Held { base, count: wider };
+    // The powers, each from the one before it.
+    #[tactic(auto, using(crate::proofs::Places::powers_first, crate::proofs::Places::powers_more))]
+    fn fill_powers(&mut self)
+        requires { self.old.count ≡ 0 }
+        ensures { PowersLeft self.new.powers 1024 × (self.new.region.now ≡ self.old.region.now) }
+    {
+        self.powers[0] = 1;
+        for place in 1..PLACES {
+            self.powers[place] = mul(self.powers[place - 1], POWER);
+        }
     }
-    registers[0] = 0;
-    let wider = widen(registers, s, from, 1, (to - from) / APART);
-    Held {
-        base: from,
-        count: wider,
+
+    // The window begins at `from`, with the register after no bytes.
+    #[tactic(auto, using(crate::proofs::Places::registers_first))]
+    fn begin(&mut self, from: usize)
+        requires { PowersLeft self.old.powers 1024 }
+        ensures { (self.new.base ≡ from) × (self.new.count ≡ 1) × (self.new.region.now ≡ self.old.region.now) }
+    {
+        self.base = from;
+        self.count = 1;
+        self.registers[0] = 0;
     }
-}
 
-// The sum from two registers and the power between them. The bytes before the first of the two
-// places are summed as they are, and so are those after the last: fewer than 256 each.
-fn join(registers: &[u16], powers: &[u16], s: &[u8], held: Held, from: usize, to: usize) -> u16
-    requires { Reaches registers.now s.now held.base held.count ((to - held.base) / 256) × (length powers.now ≡ 1024) × Powers powers.now 1024 × (held.base ≤ from) × (from + 256 ≤ to) × (to ≤ length s.now) }
-    ensures { result ≡ crc16 (take (to - from) (drop from s.now)) }
-{
-    let base = held.base;
-    let low = (from - base + (APART - 1)) / APART;
-    let high = (to - base) / APART;
-    let first = base + APART * low;
-    let last = base + APART * high;
-    let before = folds::sum(&s[from..first]);
-    let between = registers[high] ^ mul(registers[low] ^ before, powers[high - low]);
-    folds::sum_on(between, &s[last..to])
-}
+    // The registers up to the place `last`, each from the one before it.
+    #[tactic(auto, using(crate::proofs::Places::registers_more))]
+    fn widen(&mut self, last: usize)
+        requires { (0 < self.old.count) × (last < 1024) × (self.old.base + 256 * last ≤ length self.old.region.now) }
+        ensures { (last < self.new.count) × (self.new.base ≡ self.old.base) × (self.new.region.now ≡ self.old.region.now) }
+    {
+        for place in self.count..last + 1 {
+            let at = self.base + APART * (place - 1);
+            self.registers[place] = folds::sum_on(
+                self.registers[place - 1],
+                &self.region[at..at + APART],
+            );
+            self.count = place + 1;
+        }
+    }
 
-// The sum of the bytes from `from` up to `to`, which are 256 at the least. Opens the window where
-// it isn't open yet or begins too late, and moves it on where it ends too early. Callers have seen
-// that both slices have `PLACES` places and that s has the bytes; they hand over a window that isn't
-// open, or what the last call over the same bytes left.
-pub fn sum_between(
-    registers: &mut [u16],
-    powers: &mut [u16],
-    s: &[u8],
-    held: Held,
-    from: usize,
-    to: usize,
-) -> Summed
-    requires { (length registers.old ≡ 1024) × (length powers.old ≡ 1024) × Keeps registers.old powers.old s.now held.base held.count × (from + 256 ≤ to) × (to < from + 262144) × (to ≤ length s.now) }
-    ensures { (result.sum ≡ crc16 (take (to - from) (drop from s.now))) × (length registers.new ≡ 1024) × (length powers.new ≡ 1024) × Keeps registers.new powers.new s.now result.held.base result.held.count }
-{
-    let opened = open(registers, powers, s, held, from);
-    let covered = cover(registers, s, opened, from, to);
-    let sum = join(registers, powers, s, covered, from, to);
-    Summed { sum, held: covered }
+    // The sum from two registers and the power between them. The bytes before the first of the two
+    // places are summed as they are, and so are those after the last: fewer than 256 each.
+    fn join(&self, from: usize, to: usize) -> u16
+        requires { ((to - self.now.base) / 256 < self.now.count) × (self.now.base ≤ from) × (from + 256 ≤ to) × (to ≤ length self.now.region.now) }
+        ensures { result ≡ crc16 (take (to - from) (drop from self.now.region.now)) }
+    {
+        let base = self.base;
+        let low = (from - base + (APART - 1)) / APART;
+        let high = (to - base) / APART;
+        let first = base + APART * low;
+        let last = base + APART * high;
+        let before = folds::sum(&self.region[from..first]);
+        let power = self.powers[high - low];
+        let between = self.registers[high] ^ mul(self.registers[low] ^ before, power);
+        folds::sum_on(between, &self.region[last..to])
+    }
+
+    // The sum of the bytes from `from` up to `to`, which are 256 at the least. A window that isn't
+    // open yet, that begins too late or that has too few places begins anew at `from`.
+    pub fn sum_between(&mut self, from: usize, to: usize) -> u16
+        requires { (from + 256 ≤ to) × (to < from + 262144) × (to ≤ length self.old.region.now) }
+        ensures sum { result ≡ crc16 (take (to - from) (drop from self.old.region.now)) }
+        ensures region { self.new.region.now ≡ self.old.region.now }
+    {
+        if self.count == 0 {
+            self.fill_powers();
+            self.begin(from);
+        } else if from < self.base || PLACES * APART <= to - self.base {
+            self.begin(from);
+        }
+        self.widen((to - self.base) / APART);
+        self.join(from, to)
+    }
 }

@@ -37,17 +37,17 @@ pub put_covered-sum-requires : goal.put_covered-sum-requires
 unfolding length_of
 put_covered-sum-requires c =
     let a = c.args in
-    let n = length_of a.kind (length a.key.now) (length a.value.now) in
-    omega (arith, mark_lt a.seed a.at, head_bounds a.kind, aligned_le n)
+    let n = length_of a.asked.kind (length a.asked.key.now) (length a.asked.value.now) in
+    omega (arith, mark_lt a.seed a.at, head_bounds a.asked.kind, aligned_le n)
 
 pub slice_bounds-sum-end : goal.slice_bounds-sum-end
 unfolding length_of
 slice_bounds-sum-end c =
     let r = room _ _ _ _ _ _ c.requires.in_range.0 c.requires.in_region c.put_covered-sum.ensures.1 (omega arith) in omega arith
 
-pub put16-requires : goal.put16-requires
+pub put-requires : goal.put-requires
 unfolding length_of
-put16-requires c =
+put-requires c =
     let r = room _ _ _ _ _ _ c.requires.in_range.0 c.requires.in_region c.put_covered-sum.ensures.1 (omega arith) in omega arith
 
 pub overflow_add-end : goal.overflow_add-end
@@ -76,21 +76,21 @@ returns c =
     let a = c.args in
     let r = room _ _ _ _ _ _ c.requires.in_range.0 c.requires.in_region c.put_covered-sum.ensures.1 (omega arith) in
     let s = a.region.now in
-    let i : Item = item a.kind a.ns a.key.now a.value.now in
+    let i : Item = item a.asked.kind a.asked.ns a.asked.key.now a.asked.value.now in
     let covered = covered_of (mark_from a.seed a.at) i in
     let sum = c.put_covered-sum.result in
-    let n1 : length covered ≡ head_length a.kind + length a.value.now + length a.key.now = covered_length (mark_from a.seed a.at) i in
+    let n1 : length covered ≡ head_length a.asked.kind + length a.asked.value.now + length a.asked.key.now = covered_length (mark_from a.seed a.at) i in
     let p1 : c.put_covered-sum.new.region ≡ over s a.at covered = c.put_covered-sum.ensures.0 ∙ ap (λ (m : ℕ). over s a.at (covered_of m i)) c.mark_at-mark.ensures in
     let n : sum - a.at ≡ length covered = omega arith in
     let q : c.sum-crc.result ≡ crc16 covered =
     c.sum-crc.ensures ∙ ap crc16 (ap₂ (λ (k : ℕ) (t : List ℕ). take k (drop a.at t)) n p1 ∙ over_back s a.at covered (omega arith)) in
-    let p2 : c.put16.new.region ≡ over s a.at (covered ++ bytes_of 2 (crc16 covered)) =
-    over_then s a.at covered (bytes_of 2 (crc16 covered)) sum p1 (c.put16.ensures ∙ ap (λ (v : ℕ). over c.put_covered-sum.new.region sum (bytes_of 2 v)) q) (omega arith) (omega arith) in
+    let p2 : c.put.new.region ≡ over s a.at (covered ++ bytes_of 2 (crc16 covered)) =
+    over_then s a.at covered (bytes_of 2 (crc16 covered)) sum p1 (c.put.ensures ∙ ap (λ (v : ℕ). over c.put_covered-sum.new.region sum (bytes_of 2 v)) q) (omega arith) (omega arith) in
     let n2 : length (covered ++ bytes_of 2 (crc16 covered)) ≡ length covered + 2 = length-append covered (bytes_of 2 (crc16 covered)) ∙ ap (λ (k : ℕ). length covered + k) (bytes_length 2 (crc16 covered)) in
     let n3 : c.align_up-next.result - (sum + 2) ≡ aligned (length covered + 2) - (length covered + 2) =
     let whole : aligned (sum + 2) ≡ a.at + aligned (length covered + 2) = ap aligned (omega arith) ∙ aligned_from a.at (length covered + 2) c.requires.in_range.0 in
     omega (arith, c.align_up-next.ensures) in
     let filling : List ℕ = replicate (aligned (length covered + 2) - (length covered + 2)) 0xff in
     let p3 : c.fill.new.region ≡ over s a.at ((covered ++ bytes_of 2 (crc16 covered)) ++ filling) =
-    over_then s a.at (covered ++ bytes_of 2 (crc16 covered)) filling (sum + 2) p2 (c.fill.ensures ∙ ap (λ (v : ℕ). over c.put16.new.region (sum + 2) (replicate v 0xff)) n3) (omega arith) (omega arith) in
+    over_then s a.at (covered ++ bytes_of 2 (crc16 covered)) filling (sum + 2) p2 (c.fill.ensures ∙ ap (λ (v : ℕ). over c.put.new.region (sum + 2) (replicate v 0xff)) n3) (omega arith) (omega arith) in
     (p3 ∙ ap (over s a.at) (append_assoc covered (bytes_of 2 (crc16 covered)) filling), c.align_up-next.ensures ∙ r.next)

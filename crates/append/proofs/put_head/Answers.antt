@@ -17,18 +17,18 @@ use Rattle.append.proofs.put_head.Goals as goal
 pub returns-then-kind-eq-TOMBSTONE : goal.returns-then-kind-eq-TOMBSTONE
 unfolding head_of head_length bytes_of
 returns-then-kind-eq-TOMBSTONE c =
-    let both : let a = c.args in c.put16.new.region ≡ over a.region.now a.at (bytes_of 4 a.word ++ bytes_of 2 a.klen) =
+    let both : let a = c.args in c.put-2.new.region ≡ over a.region.now a.at (bytes_of 4 a.word ++ bytes_of 2 a.klen) =
     let a = c.args in
-    over_then a.region.now a.at (bytes_of 4 a.word) (bytes_of 2 a.klen) (a.at + 4) c.put32.ensures c.put16.ensures refl (omega arith) in
+    over_then a.region.now a.at (bytes_of 4 a.word) (bytes_of 2 a.klen) (a.at + 4) c.put.ensures c.put-2.ensures refl (omega arith) in
     let tombstone : eqb c.args.kind 2 ≡ true = eq-eqb _ _ c.if-kind-eq-TOMBSTONE.true in
     (simp tombstone (both), simp tombstone)
 
 pub returns : goal.returns
 unfolding head_of head_length bytes_of
 returns c =
-    let both : let a = c.args in c.put16.new.region ≡ over a.region.now a.at (bytes_of 4 a.word ++ bytes_of 2 a.klen) =
+    let both : let a = c.args in c.put-2.new.region ≡ over a.region.now a.at (bytes_of 4 a.word ++ bytes_of 2 a.klen) =
     let a = c.args in
-    over_then a.region.now a.at (bytes_of 4 a.word) (bytes_of 2 a.klen) (a.at + 4) c.put32.ensures c.put16.ensures refl (omega arith) in
+    over_then a.region.now a.at (bytes_of 4 a.word) (bytes_of 2 a.klen) (a.at + 4) c.put.ensures c.put-2.ensures refl (omega arith) in
     let a = c.args in
     let dated : eqb a.kind 2 ≡ false = ne_eqb _ _ c.if-kind-eq-TOMBSTONE.false in
-    (simp dated (over_then a.region.now a.at (bytes_of 4 a.word ++ bytes_of 2 a.klen) (bytes_of 2 a.vlen) (a.at + 6) (both) c.put16-2.ensures refl (omega arith)), simp dated)
+    (simp dated (over_then a.region.now a.at (bytes_of 4 a.word ++ bytes_of 2 a.klen) (bytes_of 2 a.vlen) (a.at + 6) (both) c.put-3.ensures refl (omega arith)), simp dated)

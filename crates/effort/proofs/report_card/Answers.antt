@@ -1,14 +1,11 @@
--- `effort::report_card` is safe: a header that was accepted is 4,096 bytes long, so the data region begins within the card.
+-- `effort::report_card` is safe: the used bound lies within the data region, and so within the most that a card has.
 -- Assumes nothing.
-use Rattle.std.proofs.Common.{sym, ap, ◌∙◌}
-use Rattle.header.specs.Header.{said_header}
-use Rattle.header.proofs.Accepted.{accepted_long}
+use Rattle.std.proofs.Common.{sym, ap, ◌∙◌, arith}
+use Rattle.answers.specs.Answers.{said}
+use Rattle.tail.proofs.Zeros.{used_within}
 use Rattle.effort.proofs.report_card.Goals as goal
 
-pub slice_bounds-report_data-count : goal.slice_bounds-report_data-count
-slice_bounds-report_data-count g c =
-    accepted_long _ (sym c.read_header-read.ensures ∙ ap said_header c.in-Header.is)
-
-pub slice_bounds-report_data-start : goal.slice_bounds-report_data-start
-slice_bounds-report_data-start g c =
-    accepted_long _ (sym c.read_header-read.ensures ∙ ap said_header c.in-Header.is)
+pub report_effort-requires : goal.report_effort-requires
+report_effort-requires g c =
+    let within = used_within _ (sym c.used_bound.ensures ∙ ap said c.in_ok-bound.was) in
+    omega (arith, c.in_ok-file.ensures.1)

@@ -9,7 +9,7 @@ use Rattle.lister.proofs.list_entries.Given as goal
 
 abbrev pub invariant-loop-e : goal.invariant-loop-e
 invariant-loop-e g l =
-    (l.from ≤ length l.region) × (durable l.from (list (mark_of l.version l.ordinal) l.region l.bound l.from) ≡ durable_of (mark_of l.version l.ordinal) l.region l.bound)
+    (l.from ≤ length l.region) × (durable l.from (list (mark_of l.file.version l.file.ordinal) l.region l.bound l.from) ≡ durable_of (mark_of l.file.version l.file.ordinal) l.region l.bound)
 
 abbrev pub decreases-loop-e : goal.decreases-loop-e
 decreases-loop-e g l = l.bound - l.from

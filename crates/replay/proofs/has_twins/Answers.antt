@@ -1,17 +1,14 @@
--- `replay::has_twins` meets its contract. The invariant: what is left of the list has two equal ordinals exactly if the list has.
+-- `replay::has_twins`: the first of what is left stands again, or the others decide.
 -- Assumes nothing.
-use mathlib.Core.Path.{sym, ◌∙◌}
-use native.Mathlib.Omega.{arith}
-use Rattle.replay.proofs.Listings.{twins_found, twins_passed, twins_over}
+use Rattle.std.proofs.Common.{sym, ap, ◌∙◌}
+use Rattle.replay.specs.Start.{twins}
+use Rattle.replay.proofs.Listings.{twins_found, twins_passed}
 use Rattle.replay.proofs.has_twins.Goals as goal
 
-pub returns-then-stands_again : goal.returns-then-stands_again
-returns-then-stands_again c =
-    sym (c.loop-i.invariant ∙ twins_found _ c.loop-i.i (omega arith) (sym c.stands_again.ensures ∙ c.if-stands_again.true))
+pub returns-then-contains : goal.returns-then-contains
+returns-then-contains c =
+    sym (c.loop-first.invariant ∙ ap twins c.in-Some.ensures.cases.0 ∙ twins_found c.in-Some.first.now c.in-Some.others.now (sym c.contains.ensures.value ∙ c.if-contains.true))
 
-pub loop-i-preserved : goal.loop-i-preserved
-loop-i-preserved c =
-    c.loop-i.invariant ∙ twins_passed _ c.loop-i.i (omega arith) (sym c.stands_again.ensures ∙ c.if-stands_again.false)
-
-pub returns : goal.returns
-returns c = sym (c.loop-i.invariant ∙ twins_over _ c.loop-i.i (omega arith))
+pub loop-first-preserved : goal.loop-first-preserved
+loop-first-preserved c =
+    c.loop-first.invariant ∙ ap twins c.in-Some.ensures.cases.0 ∙ twins_passed c.in-Some.first.now c.in-Some.others.now (sym c.contains.ensures.value ∙ c.if-contains.false)

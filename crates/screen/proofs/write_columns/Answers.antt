@@ -6,7 +6,7 @@ use Rattle.screen.proofs.Columns.{rows_long, first, first_none, first_more, firs
 use Rattle.screen.proofs.write_columns.Goals as goal
 
 pub loop-ns-init : goal.loop-ns-init
-loop-ns-init g c = (omega arith, omega arith, first_none c.args.grid)
+loop-ns-init g c = (omega arith, first_none c.args.grid)
 
 pub loop-ns-preserved : goal.loop-ns-preserved
 loop-ns-preserved g c =
@@ -14,13 +14,13 @@ loop-ns-preserved g c =
     let a = first_more 0 c.args.grid n in
     let b = first_more 1 c.args.grid n in
     let d = first_more 2 c.args.grid n in
-    (omega arith, omega arith, omega arith)
+    (omega arith, omega arith)
 
 pub returns : goal.returns
 returns g c =
     let grid = c.args.grid in
     let n : c.loop-ns.ns ≡ 64 = omega arith in
-    let told = c.loop-ns.invariant.2 in
+    let told = c.loop-ns.invariant.1 in
     -- there are three rows, and none is longer than 64
     let three : length grid ≡ 3 = search rules in
     let row0 : length (get_or grid 0 []) ≤ 64 = search (rows_long, rules) in

@@ -1,35 +1,26 @@
 -- `tracker::record`: by its verdict, whose number is the table's, and by the law of one entry more.
 -- Assumes nothing.
-use Rattle.std.proofs.Common.{◌≡◌, ◌<◌, ◌^◌, length, sym, ◌∙◌, arith, rules}
+use Rattle.std.proofs.Common.{◌≡◌, length, sym, ◌∙◌, arith, rules}
 use mir.Facts.{to_z-of_z}
 use mir.Syntax.{w8}
 use Rattle.tracker.proofs.Sounds.{sound_roomy}
-use Rattle.tracker.proofs.Records.{record_refused, record_accepted, free}
+use Rattle.tracker.proofs.Records.{record_refused, record_accepted}
 use Rattle.tracker.proofs.record.Goals as goal
 
-pub returns-in-Refused : goal.returns-in-Refused
-returns-in-Refused c =
-    let a = c.args in
-    let long : length a.tracker.lengths ≡ 16 = search rules in
-    record_refused a.tracker a.shard a.delta long c.is_sound-sound.result c.is_sound-sound.ensures c.waiting_on-waiting.result c.waiting_on-waiting.ensures c.number_on-held.result c.number_on-held.ensures c.record_verdict-verdict.result c.record_verdict-verdict.ensures c.in-Refused.refusal c.in-Refused.is
+pub returns-in-Err : goal.returns-in-Err
+returns-in-Err c =
+    let t = c.args.tracker in
+    let long : length t.lengths ≡ 16 = search rules in
+    record_refused t c.args.shard c.args.delta long c.is_sound-sound.ensures c.waiting_on-waiting.ensures c.number_on-held.ensures c.in-Err.refusal c.in-Err.ensures.number
 
-pub push-changed-requires : goal.push-changed-requires
-push-changed-requires c =
-    let a = c.args in
-    let long : length a.tracker.lengths ≡ 16 = search rules in
-    let f = free a.tracker a.shard a.delta long c.is_sound-sound.result c.is_sound-sound.ensures c.waiting_on-waiting.result c.waiting_on-waiting.ensures c.number_on-held.result c.number_on-held.ensures c.record_verdict-verdict.result c.record_verdict-verdict.ensures c.in_default.is in
-    (sound_roomy a.tracker (sym c.is_sound-sound.ensures ∙ f.soundness), (f.on_shard, omega (arith, f.room, c.waiting_on-waiting.ensures)))
-
-pub overflow_add-changed : goal.overflow_add-changed
-overflow_add-changed c =
-    let a = c.args in
-    let long : length a.tracker.lengths ≡ 16 = search rules in
-    let f = free a.tracker a.shard a.delta long c.is_sound-sound.result c.is_sound-sound.ensures c.waiting_on-waiting.result c.waiting_on-waiting.ensures c.number_on-held.result c.number_on-held.ensures c.record_verdict-verdict.result c.record_verdict-verdict.ensures c.in_default.is in
-    let below : a.tracker.next < 2 ^ 64 = search rules in
-    record { fits = omega (arith, f.numbers_left) }
+pub push-requires : goal.push-requires
+push-requires c =
+    let free = c.in_default.ensures.passed in
+    record { roomy = sound_roomy c.args.tracker (sym c.is_sound-sound.ensures ∙ free.soundness); on_shard = free.on_shard; free = omega (arith, free.room, c.waiting_on-waiting.ensures) }
 
 pub returns : goal.returns
 returns c =
-    let a = c.args in
-    let long : length a.tracker.lengths ≡ 16 = search rules in
-    record_accepted a.tracker a.shard a.delta long c.is_sound-sound.result c.is_sound-sound.ensures c.waiting_on-waiting.result c.waiting_on-waiting.ensures c.number_on-held.result c.number_on-held.ensures c.record_verdict-verdict.result c.record_verdict-verdict.ensures c.in_default.is c.push-changed.result (rw (to_z-of_z {w = w8} c.ranges.delta) at c.push-changed.ensures)
+    let t = c.args.tracker in
+    let long : length t.lengths ≡ 16 = search rules in
+    record_accepted t c.args.shard c.args.delta long c.is_sound-sound.ensures c.waiting_on-waiting.ensures c.number_on-held.ensures c.in_default.ensures.number c.push.new.self
+    (rw (to_z-of_z {w = w8} c.ranges.delta) at c.push.ensures)

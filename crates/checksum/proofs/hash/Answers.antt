@@ -1,9 +1,0 @@
--- `checksum::hash` meets its contract: it starts where the catalogue says.
--- Assumes nothing.
-use borrow.Author.Rules.{rules}
-use Rattle.checksum.specs.Catalogue.{crc16}
-use Rattle.checksum.proofs.hash.Goals as goal
-
-pub returns : goal.returns
-unfolding crc16
-returns c = search rules
