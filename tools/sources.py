@@ -160,6 +160,9 @@ def words(kind, own):
 def read(text, module=()):
     """the items of a file, and behind each block those that it holds"""
     todo = [(one, module) for one in split(text, blanked(text), 0, len(text))]
+    own = {one.name for one, _ in todo if one.kind == "trait" and not one.public}
+    for held in (held for block, _ in todo if block.kind == "impl" and block.trait in own for held in block.items):
+        held.public = False  # nobody outside can name the trait
     while todo:
         one, one.module = todo.pop(0)
         yield one

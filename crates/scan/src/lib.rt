@@ -5,7 +5,7 @@
 // whole region, as the durable end does.
 #![tactic(auto)]
 
-ghost use Rattle.std.specs.Prelude.{◌≡◌, ◌+◌, ◌-◌, ◌<◌, ◌≤◌, ◌≢◌, ◌↔◌, IsTrue, IfOk, IfSome, OnOk, MatchResult, length, min};
+ghost use Rattle.std.specs.Prelude.{◌≡◌, List, ℕ, ◌^◌, ◌+◌, ◌-◌, ◌<◌, ◌≤◌, ◌≢◌, ◌↔◌, IsTrue, IfOk, IfSome, OnOk, MatchResult, length, min};
 ghost use Rattle.std.specs.Coded.{Coded-set};
 ghost use Rattle.answers.specs.Numbers.{number_of, number_of_verdict};
 ghost use Rattle.answers.specs.Limits.{largest_region};
@@ -114,27 +114,114 @@ fn summed(region: &[u8], e: Entry) -> usize
     }
 }
 
-// Whether an entry is intact. Its sum comes from the window where the entry is long and the walk
-// has summed up more than twice the bytes that it has passed. Sums of whole entries are never more
-// than what was passed, so no sound log comes near that, nor one with a damaged entry or two; a
-// hostile card soon does, and from then on a sum costs the same however long its entry is. Callers
-// have the entry from `entry::entry_at`.
-fn is_intact(window: &mut Window, e: Entry, spent: usize) -> bool
-    requires { (e.offset ≤ sum_place e) × (e.end ≡ sum_place e + 2) × (sum_place e ≤ e.offset + most_per_line) }
-    ensures answer { result ≡ intact window.old.region.now e }
-    ensures region { window.new.region.now ≡ window.old.region.now }
+// An entry's sum comes from the window where the entry is long and the walk has summed up more than
+// twice the bytes that it has passed. Sums of whole entries are never more than what was passed, so no
+// sound log comes near that, nor one with a damaged entry or two; a hostile card soon does, and from
+// then on a sum costs the same however long its entry is.
+fn by_window(from: usize, length: usize, spent: usize) -> bool
+    requires { from < 2 ^ 63 }
+    ensures { IsTrue result → 512 ≤ length }
 {
-    let region = window.region;
-    let sum = e.end - 2;
-    if e.end <= region.len() && LONG <= sum - e.offset && 2 * e.offset < spent {
-        return fields::read::<2>(region, sum) == window.sum_between(e.offset, sum) as u64;
-    }
-    entry::intact(region, e)
+    LONG <= length && 2 * from < spent
 }
 
-// The walk over the window's region, and what it took on top of what was spent before. Callers have
-// seen that neither 3 nor 4 refuses, and spent no more than a whole region can take. The lines are
-// counted by their places.
+// Where a walk takes the sum of an entry from: of a listing the window, which goes on from walk to
+// walk, and of one walk by itself the bytes.
+trait Sums {
+    ghost lent: { Self → List ℕ };
+
+    // Whether an entry is intact. Callers have the entry from `entry::entry_at`.
+    fn is_intact(&mut self, e: Entry, spent: usize) -> bool
+        requires { (e.offset ≤ sum_place e) × (e.end ≡ sum_place e + 2) × (sum_place e ≤ e.offset + most_per_line) }
+        ensures answer { result ≡ intact (lent self.old) e }
+        ensures same { lent self.new ≡ lent self.old };
+}
+
+impl<'a> Sums for Window<'a> {
+    ghost lent = { λ w. w.region.now };
+
+    fn is_intact(&mut self, e: Entry, spent: usize) -> bool {
+        let region = self.region;
+        let sum = e.end - 2;
+        if e.end <= region.len() && by_window(e.offset, sum - e.offset, spent) {
+            return fields::read::<2>(region, sum) == self.sum_between(e.offset, sum) as u64;
+        }
+        entry::intact(region, e)
+    }
+}
+
+// The bytes of a region by themselves.
+#[derive(Drop)]
+struct Bytes<'a>(&'a [u8]);
+
+impl<'a> Sums for Bytes<'a> {
+    ghost lent = { λ b. b.0.now };
+
+    fn is_intact(&mut self, e: Entry, _spent: usize) -> bool {
+        entry::intact(self.0, e)
+    }
+}
+
+// The walk, and what it took on top of what was spent before. Callers have seen that neither 3 nor 4
+// refuses, and spent no more than a whole region can take. The lines are counted by their places.
+fn walk_lines<S: Sums>(
+    region: &[u8],
+    sums: &mut S,
+    seed: u32,
+    bound: usize,
+    offset: usize,
+    spent: Effort,
+) -> CountedWalk
+    requires { (length region.now ≤ largest_region) × (bound ≤ length region.now) × (spent.lines ≤ 16777216) × (spent.bytes ≤ 4503599627370496) × (S.lent sums.old ≡ region.now) }
+    ensures answer { said_counted result ≡ behind spent (counted_walk (mark_from seed) region.now bound offset) }
+    ensures same { S.lent sums.new ≡ S.lent sums.old }
+{
+    if bound <= offset {
+        return CountedWalk {
+            walked: Ok(None),
+            effort: spent,
+        };
+    }
+    let start = fields::align_up(offset);
+    let mut bytes = spent.bytes;
+    let mut p = start;
+    // The documents name this form: a labelled walk over the lines, left from inside the trial of one.
+    'lines: loop {
+        'trial: {
+            let Some(q) = next_marked(region, seed, bound, p) else {
+                let lines = spent.lines
+                    + (lines_end(region, bound).saturating_sub(start) + 15) / 16;
+                break 'lines CountedWalk {
+                    walked: Ok(None),
+                    effort: Effort { lines, bytes },
+                };
+            };
+            let lines = spent.lines + (q - start) / 16 + 1;
+            match known_at(region, q) {
+                Err(stopped) => {
+                    break 'lines CountedWalk {
+                        walked: Err(stopped),
+                        effort: Effort { lines, bytes },
+                    };
+                }
+                Ok(e) => {
+                    let intact = sums.is_intact(e, bytes);
+                    bytes += summed(region, e);
+                    p = q + 16;
+                    if !intact {
+                        break 'trial;
+                    }
+                    break 'lines CountedWalk {
+                        walked: Ok(Some(e)),
+                        effort: Effort { lines, bytes },
+                    };
+                }
+            }
+        }
+    }
+}
+
+// The same over the window's region, by its sums.
 pub fn counted_walk(
     window: &mut Window,
     seed: u32,
@@ -146,47 +233,7 @@ pub fn counted_walk(
     ensures answer { said_counted result ≡ behind spent (counted_walk (mark_from seed) window.old.region.now bound offset) }
     ensures region { window.new.region.now ≡ window.old.region.now }
 {
-    if bound <= offset {
-        return CountedWalk {
-            walked: Ok(None),
-            effort: spent,
-        };
-    }
-    let region = window.region;
-    let start = fields::align_up(offset);
-    let mut bytes = spent.bytes;
-    let mut p = start;
-    // The labelled walk over the lines, left from inside the trial of one, is the form that the
-    // documents name here.
-    'lines: loop {
-        let Some(q) = next_marked(region, seed, bound, p) else {
-            let lines = spent.lines + (lines_end(region, bound).saturating_sub(start) + 15) / 16;
-            break 'lines CountedWalk {
-                walked: Ok(None),
-                effort: Effort { lines, bytes },
-            };
-        };
-        let lines = spent.lines + (q - start) / 16 + 1;
-        match known_at(region, q) {
-            Err(stopped) => {
-                break 'lines CountedWalk {
-                    walked: Err(stopped),
-                    effort: Effort { lines, bytes },
-                };
-            }
-            Ok(e) => {
-                let intact = is_intact(window, e, bytes);
-                bytes += summed(region, e);
-                if intact {
-                    break 'lines CountedWalk {
-                        walked: Ok(Some(e)),
-                        effort: Effort { lines, bytes },
-                    };
-                }
-            }
-        }
-        p = q + 16;
-    }
+    walk_lines(window.region, window, seed, bound, offset, spent)
 }
 
 // Where a listing goes on: behind the entry that was found. Where none was, there is nothing more.
@@ -201,14 +248,15 @@ fn goes_on(walked: Result<Option<Entry>, Stopped>, bound: usize) -> usize
 
 // The listing of a region, entry by entry, for those that go through a region from 0 on: where its
 // next walk begins, and what was spent up to there. The window goes on from walk to walk, so that
-// no card makes them sum up the same bytes over and over.
+// no card makes them sum up the same bytes over and over. Its fields are public: whoever has come so
+// far by walks of his own goes on from there.
 #[derive(Drop)]
 pub struct Listing<'a> {
-    window: Window<'a>,
-    seed: u32,
-    bound: usize,
-    from: usize,
-    effort: Effort,
+    pub window: Window<'a>,
+    pub seed: u32,
+    pub bound: usize,
+    pub from: usize,
+    pub effort: Effort,
     ghost small: { length window.region.now ≤ largest_region },
     ghost inside: { bound ≤ length window.region.now },
     ghost along: { from ≤ length window.region.now },
@@ -258,8 +306,8 @@ impl<'a> Listing<'a> {
 }
 
 // The next verified entry from `offset` on, up to `bound`, by the seed of the marks. Refusals 3, 4,
-// then 10 with its place. It goes over the lines by itself, since one walk has no use for a window: to
-// zero a window's 4,096 bytes takes longer than to find a short entry (30 ns beside 21).
+// then 10 with its place. One walk has no use for a window: to zero a window's 4,096 bytes takes longer
+// than to find a short entry.
 pub fn seeded_walk(
     region: &[u8],
     seed: u32,
@@ -269,18 +317,8 @@ pub fn seeded_walk(
     ensures { said result ≡ walk_of (mark_from seed) region.now bound offset }
 {
     walkable(region, bound)?;
-    if bound <= offset {
-        return Ok(None);
-    }
-    let mut from = fields::align_up(offset);
-    while let Some(q) = next_marked(region, seed, bound, from) {
-        let e = known_at(region, q)?;
-        if entry::intact(region, e) {
-            return Ok(Some(e));
-        }
-        from = q + 16;
-    }
-    Ok(None)
+    let nothing = Effort { lines: 0, bytes: 0 };
+    walk_lines(region, &mut Bytes(region), seed, bound, offset, nothing).walked
 }
 
 // The same in a file of this version and ordinal, where 2 comes first.
