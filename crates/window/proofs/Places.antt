@@ -15,7 +15,8 @@ use Rattle.checksum.proofs.Linear.{steps_lt}
 use Rattle.checksum.proofs.Runs.{crc_from_append}
 use Rattle.folds.specs.Leaves.{Same}
 use Rattle.folds.proofs.Congruence.{same_of, same_sym, same_trans, same_shift, same_low, same_steps}
-use Rattle.window.specs.Windows.{Registers, PowersLeft, Times}
+use Rattle.window.specs.Windows.{Registers, PowersLeft, Powers, Keeps, Times}
+use Rattle.window.specs.declared.Window.{Window}
 use Rattle.window.proofs.Products.{power_right}
 
 -- ---- a store adds a place: what holds of each before it, and of what is stored there, holds of one more
@@ -87,3 +88,24 @@ registers_more l s base n r room some w e =
     (e ∙ ap (λ (x : ℕ). crc_from x (take (at + 256 - at) (drop at s))) (register_at l s base w (n - 1) (omega arith))
     ∙ sym (run_on 0 base at (at + 256) s (omega arith) (omega arith))
     ∙ ap (λ (k : ℕ). crc_from 0 (take k (drop base s))) next)
+
+-- ---- the caller's laws
+
+-- a window that isn't open is right whatever stands in it
+pub keeps_none : (registers powers s : List ℕ) (base : ℕ) → Keeps registers powers s base 0
+keeps_none registers powers s base = record { room = omega arith; window = λ j h. absurd (omega arith); powers = λ h. absurd (omega arith) }
+
+-- what a window has
+pub keeps_window : (w : Window) → Keeps w.registers w.powers w.region.now w.base w.count
+keeps_window w = record { room = w.room; window = w.taken; powers = λ h. record { at = power_at w.powers (w.known h) } }
+
+-- numbers of sixteen bits that leave what the powers of x leave are what these leave
+pub powers_left : (l : List ℕ) {n : ℕ} → ((j : ℕ) → get_or l j 0 < 2 ^ 16) → Powers l n → PowersLeft l n
+powers_left l small w j h =
+    let one : 2 ^ (2048 * j) ≡ 1 * 2 ^ (2048 * j) = omega arith in
+    same_low (small j) (steps_lt (2048 * j) 1 (lit< tt)) (same_trans (w.at j h) (same_trans (same_of one) (same_steps (2048 * j) 1 (lit< tt))))
+
+-- and with it, what makes a window
+pub keeps_makes : {registers powers s : List ℕ} {base count : ℕ} → ((j : ℕ) → get_or powers j 0 < 2 ^ 16) → Keeps registers powers s base count
+    → (count ≤ 1024) × Registers registers s base count × (0 < count → PowersLeft powers 1024)
+keeps_makes {powers = powers} small k = (k.room, k.window, λ h. powers_left powers small (k.powers h))

@@ -6,25 +6,27 @@ ghost use Rattle.checksum.specs.Catalogue.{step, crc16};
 ghost use Rattle.window.specs.Windows.{Registers, PowersLeft, Times};
 
 // As many registers, and as many powers.
-const PLACES: usize = 1024;
+pub const PLACES: usize = 1024;
 // Bytes between two registers.
-const APART: usize = 256;
+pub const APART: usize = 256;
 // What x ^ 2048 leaves.
 const POWER: u16 = 64848;
 
 // The registers of a region's bytes from the base on, one for every 256 bytes, and the powers of
 // x ^ 2048. `count` registers are there, and as soon as there is one, the powers are there too.
-#[derive(Drop)]
+// Anyone may take a window apart, and make one of registers and powers that he has: what he shows
+// is `Keeps` of them (`keeps_makes`, of proofs/Places.antt).
+#[derive(Clone, Copy)]
 pub struct Window<'a> {
     pub region: &'a [u8],
-    registers: [u16; PLACES],
-    powers: [u16; PLACES],
-    base: usize,
-    count: usize,
-    ghost bytes: { (i : ℕ) → slice_index region.now i < 256 },
-    ghost room: { count ≤ 1024 },
-    ghost taken: { Registers registers region.now base count },
-    ghost known: { 0 < count → PowersLeft powers 1024 },
+    pub registers: [u16; PLACES],
+    pub powers: [u16; PLACES],
+    pub base: usize,
+    pub count: usize,
+    pub ghost bytes: { (i : ℕ) → slice_index region.now i < 256 },
+    pub ghost room: { count ≤ 1024 },
+    pub ghost taken: { Registers registers region.now base count },
+    pub ghost known: { 0 < count → PowersLeft powers 1024 },
 }
 
 // The register after one bit.
