@@ -20,6 +20,11 @@ pub const LARGEST_VALUE: usize = 32768;
 
 pub const LAST_NAMESPACE: u64 = 63;
 
+// The versions of a file, as numbers.
+pub const VERSION_1: u64 = 1;
+
+pub const VERSION_2: u64 = 2;
+
 #[derive(Clone, Copy, Debug, PartialEq, Eq)]
 pub enum Refusal {
     // 1: header shorter than 4,096
@@ -96,8 +101,8 @@ impl TryFrom<u64> for Version {
     #[tactic(auto, unfolding(crate::specs::Versions::version_refusal, crate::specs::Versions::is_version))]
     fn try_from(number: u64) -> Result<Version, Refusal> {
         match number {
-            1 => Ok(Version::One),
-            2 => Ok(Version::Two),
+            VERSION_1 => Ok(Version::One),
+            VERSION_2 => Ok(Version::Two),
             _ => Err(Refusal::WrongHeader),
         }
     }
