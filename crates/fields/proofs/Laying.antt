@@ -1,6 +1,6 @@
 -- Runs of bytes put over a region: what stands in them, before them and behind them, and one run put behind another.
 -- Assumes nothing.
-use Prim.Native.Nat.{ℕ, ◌+◌, ◌-◌, ◌<◌, ◌≤◌, suc}
+use Prim.Native.Nat.{ℕ, ◌+◌, ◌-◌, ◌/◌, ◌^◌, ◌<◌, ◌≤◌, suc}
 use mathlib.Core.Path.{◌≡◌, refl, sym, ap, ap₂, ◌∙◌}
 use mathlib.Core.List.{List, [], ◌++◌, append_assoc, ◌∷◌}
 use native.Mathlib.Omega.{arith}
@@ -8,7 +8,9 @@ use native.Mathlib.Nat.{add-zero}
 use borrow.Rule.Slice.PartMut.{put_mid}
 use lib.ListN.{length, take, drop, get_or, length-append, length-take, length-drop, take-append-drop, get_or-append, set}
 use lib.Seq.{length-take-le, take_at, drop_at, drop-drop, drop-append-add, get_or-append-add, get_or-take, get_or-drop, drop-cons, set_at}
+use Rattle.fields.specs.Numbers.{bytes_of}
 use Rattle.fields.specs.Runs.{over}
+use Rattle.fields.proofs.Widths.{bytes_length, bytes_join}
 
 module _ (region : List ℕ) (at : ℕ) where
   pub over_nothing : over region at [] ≡ region
@@ -98,6 +100,18 @@ module _ (region : List ℕ) (at : ℕ) where
 pub over_then : (region : List ℕ) (at : ℕ) (first second : List ℕ) (k : ℕ) {once twice : List ℕ} → once ≡ over region at first → twice ≡ over once k second → k ≡ at + length first → at + length first ≤ length region → twice ≡ over region at (first ++ second)
 over_then region at first second k p q e h =
     q ∙ ap₂ (λ (t : List ℕ) (j : ℕ). over t j second) p e ∙ over_over region at first second h
+
+-- a single byte
+pub over_one : (region : List ℕ) (at b : ℕ) → at < length region → set region at b ≡ over region at (b ∷ [])
+over_one region at b h =
+    ap₂ (λ (t : List ℕ) (k : ℕ). set t k b) (sym (over_nothing region at)) (sym (add-zero at)) ∙ over_set region at [] 0 b refl (omega arith)
+
+-- a number's upper half behind its lower half
+pub over_halves : (n : ℕ) (region : List ℕ) (at v : ℕ) {once twice : List ℕ} → once ≡ over region at (bytes_of n v) → twice ≡ over once (at + n) (bytes_of n (v / 256 ^ n)) → at + n ≤ length region → twice ≡ over region at (bytes_of (n + n) v)
+over_halves n region at v p q h =
+    let l = bytes_length n v in
+    over_then region at (bytes_of n v) (bytes_of n (v / 256 ^ n)) (at + n) p q (omega arith) (omega arith)
+    ∙ ap (over region at) (sym (bytes_join n n v))
 
 -- a part of the region that a run was written to
 pub over_part : (region : List ℕ) (at k : ℕ) {written : List ℕ} (run : List ℕ) → written ≡ run → k ≡ length run → put_mid at k region written ≡ over region at run

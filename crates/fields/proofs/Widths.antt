@@ -3,7 +3,7 @@
 use Prim.Native.Nat.{ℕ, zero, suc, ◌+◌, ◌-◌, ◌*◌, ◌/◌, ◌%◌, ◌^◌, ◌<◌, ◌≤◌}
 use mathlib.Core.Path.{◌≡◌, refl, sym, ap, ap₂, subst, ◌∙◌}
 use mathlib.Core.List.{List, ◌∷◌, ◌++◌}
-use native.Mathlib.Nat.{pow-suc, mul_assoc, div-div-eq-div-mul, div-lt_iff_lt-mul, div-one, mul-one, zero-add, add-zero, add_comm}
+use native.Mathlib.Nat.{pow-suc, pow-succ', mul_assoc, div-div-eq-div-mul, div-lt_iff_lt-mul, div-one, mul-one, zero-add, add-zero, add_comm}
 use native.Mathlib.Numerals.{add-one}
 use native.Mathlib.Omega.{arith}
 use lib.ListN.{length, take, drop, get_or, replicate, length-drop}
@@ -79,6 +79,16 @@ field_bytes (suc n) v rest h =
     field_same n (v % 256 ∷ (bytes_of n (v / 256) ++ rest)) (bytes_of n (v / 256) ++ rest) 1 0 (λ i l. simp (add_comm 1 i, add-one i, zero-add i)) ∙ field_bytes n (v / 256) rest less in
     omega arith
 
+-- the bytes of a wider number are those of its lower part, then those of its upper
+pub bytes_join : (m n v : ℕ) → bytes_of (m + n) v ≡ bytes_of m v ++ bytes_of n (v / 256 ^ m)
+unfolding bytes_of
+bytes_join zero n v = ap (λ (k : ℕ). bytes_of k v) (zero-add n) ∙ ap (bytes_of n) (sym (div-one v))
+bytes_join (suc m) n v =
+    let e : suc m + n ≡ suc (m + n) = omega arith in
+    ap (λ (k : ℕ). bytes_of k v) e
+    ∙ ap (λ (bs : List ℕ). v % 256 ∷ bs)
+    (bytes_join m n (v / 256) ∙ ap (λ (k : ℕ). bytes_of m (v / 256) ++ bytes_of n k) (div-div-eq-div-mul v 256 (256 ^ m) ∙ ap (λ (k : ℕ). v / k) (sym (pow-succ' 256 m))))
+
 -- ---- as std reads and writes eight bytes
 
 field_eight : (bytes : List ℕ) → from_le_bytes w64 bytes ≡ field 8 bytes 0
@@ -123,6 +133,13 @@ field_read n s p r {bytes} e copied inside width small =
     let is : r ≡ field n s p =
     e ∙ field_eight t ∙ ap (λ (k : ℕ). field k t 0) (omega arith) ∙ field_padded n (8 - n) s t p same zeros in
     (is, subst (λ (x : ℕ). x < 256 ^ n) (sym is) (field_lt n s p small))
+
+-- and their number is as low
+pub field_behind : (n : ℕ) (s : List ℕ) (p : ℕ) {bytes : List ℕ} → bytes ≡ take (p + n - p) (drop p s) → p + n ≤ length s → n ≤ 8 → ((i : ℕ) → get_or s i 0 < 256)
+    → (field 8 (bytes ++ drop n (replicate 8 0)) 0 ≡ field n s p) × (field n s p < 256 ^ n)
+field_behind n s p {bytes} copied inside width small =
+    let t = bytes ++ drop n (replicate 8 0) in
+    (sym (field_eight t) ∙ (field_read n s p (from_le_bytes w64 t) refl copied inside width small).0, field_lt n s p small)
 
 byte_at_is : (i v : ℕ) → byte_at i v ≡ v / 256 ^ i % 256
 byte_at_is zero v = ap (λ (k : ℕ). k % 256) (sym (div-one v))

@@ -9,16 +9,27 @@ ghost use Rattle.std.specs.Prelude.{◌≡◌, ◌+◌, ◌^◌, ◌<◌, ◌≤
 ghost use Rattle.fields.specs.Numbers.{field, bytes_of, aligned};
 ghost use Rattle.fields.specs.Runs.{over};
 
+// The N bytes from p on, and zeros behind them: eight bytes with the same number.
+fn padded<const N: usize>(s: &[u8], p: usize) -> [u8; 8]
+    requires inside { p + N ≤ length s.now }
+    requires width { N ≤ 8 }
+    ensures { (field 8 result 0 ≡ field N s.now p) × (field N s.now p < 256 ^ N) }
+{
+    let mut bytes = [0; 8];
+    bytes[..N].copy_from_slice(&s[p..p + N]);
+    bytes
+}
+
 // The number in N bytes from p on. The caller has seen that they lie within s. The bytes go through
 // an array of eight and not through a loop: of that the compiler makes one load, even for a caller
 // that looks at the lower three alone, as the walk does at every line with a wrong mark.
+#[tactic(auto, unfolding(crate::specs::Numbers::field))]
 pub fn read<const N: usize>(s: &[u8], p: usize) -> u64
     requires inside { p + N ≤ length s.now }
     requires width { N ≤ 8 }
     ensures { (result ≡ field N s.now p) × (result < 256 ^ N) }
 {
-    let mut bytes = [0; 8];
-    bytes[..N].copy_from_slice(&s[p..p + N]);
+    let bytes = padded::<N>(s, p);
     u64::from_le_bytes(bytes)
 }
 

@@ -1,4 +1,5 @@
 pub mod Congruence
 pub mod Folds
+pub mod Halves
 pub mod Numbers
 pub mod Only

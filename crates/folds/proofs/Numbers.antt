@@ -1,13 +1,14 @@
 -- Runs of bytes as numbers: a run in two parts, and a number with a run behind it.
 -- Assumes nothing.
 use mathlib.Core.Path.{◌≡◌, refl, sym, ap, ap₂, subst, ◌∙◌}
+use mathlib.Core.Logic.{⊎_elim}
 use mathlib.Core.List.{List, [], ◌∷◌, ◌++◌}
 use Prim.Native.Nat.{ℕ, zero, suc, ◌+◌, ◌-◌, ◌*◌, ◌/◌, ◌%◌, ◌^◌, ◌<◌, ◌≤◌}
-use native.Mathlib.Nat.{one-mul, pow-suc, mul_comm, mul_assoc, add-mul, add_assoc, add-zero, mod-lt}
+use native.Mathlib.Nat.{one-mul, eq-or-lt_of_le, mod-zero, mod-eq_of_lt, pow-suc, mul_comm, mul_assoc, add-mul, add_assoc, add-zero, mod-lt}
 use native.Mathlib.Omega.{arith}
 use lib.Arith.{digits_lt}
 use lib.ListN.{length, take, drop, get_or, take-append-drop, length-drop, drop_of_length-le}
-use lib.Seq.{take-add, take_all, drop-drop, length-take-le}
+use lib.Seq.{take-add, take_all, drop-drop, drop-cons, length-take-le}
 use lib.Dec.{lit<, lit≤}
 use lib.Pow.{pow_pos, pow-add, low, shr_lt, shl_lt, shl_exact}
 use lib.Bits.{bit_xor, xor_lt, xor_block, xor_shifted, xor_comm, xor_zero_r}
@@ -33,7 +34,7 @@ regroup x u a v b =
     sym (add_assoc (x * (u * v)) (a * v) b)
     ∙ ap (λ (y : ℕ). y + b) (ap (λ (y : ℕ). y + a * v) (sym (mul_assoc x u v)) ∙ sym (add-mul (x * u) a v))
 
-followed_none : (x : ℕ) → followed x [] ≡ x
+pub followed_none : (x : ℕ) → followed x [] ≡ x
 unfolding followed value
 followed_none x = omega arith
 
@@ -99,6 +100,12 @@ pub reads : (n : ℕ) (s : List ℕ) (i : ℕ) {r : ℕ} {bytes : List ℕ} → 
     → i + suc n ≤ length s → r < 2 ^ (8 * suc n) → Reads s i (suc n) r
 reads n s i {r} {bytes} e copied inside small =
     record { is = e ∙ number_of n bytes (ap length copied ∙ part_length s i (suc n) inside) ∙ ap value copied; small = small }
+
+pub reads_one : (s : List ℕ) (i b : ℕ) → i < length s → b ≡ get_or s i 0 → b < 2 ^ 8 → Reads s i 1 b
+unfolding value
+reads_one s i b h e l =
+    let f : b ≡ get_or s i 0 * 2 ^ 0 + 0 = omega arith in
+    record { is = f ∙ ap (λ (d : List ℕ). value (take 1 d)) (sym (drop-cons s i 0 h)); small = l }
 
 -- they stand in a chunk of what is behind place i
 
@@ -225,15 +232,22 @@ last_bytes s i {w} hs h8 hi h r =
     ∙ ap (λ (k : ℕ). followed y (drop k s)) here ∙ followed_rest s y i in
     ap (λ (k : ℕ). k % 2 ^ (8 * (length s - i))) e ∙ low y (8 * (length s - i)) (rest_lt s i hs)
 
+-- what stands in the t lowest bits of 64, as the code takes it; at t = 64 its divisor is 0, which takes nothing away
+below_bits : (w t : ℕ) → t ≤ 64 → w < 2 ^ 64 → w % (1 * 2 ^ t % 2 ^ 64) ≡ w % 2 ^ t
+below_bits w t h l =
+    ⊎_elim
+    (λ (e : t ≡ 64). ap (λ (k : ℕ). w % (1 * 2 ^ k % 2 ^ 64)) e ∙ mod-zero w ∙ sym (mod-eq_of_lt l) ∙ ap (λ (k : ℕ). w % 2 ^ k) (sym e))
+    (λ (lt : t < 64). ap (λ (k : ℕ). w % k) (shl_exact 1 t 64 (lit< tt) (omega arith) ∙ one-mul (2 ^ t)))
+    (eq-or-lt_of_le h)
+
 -- the number moves up by as many bits as are left: what leaves 64 bits is folded, and the bytes are added
-pub followed_last : (s : List ℕ) (x i : ℕ) {f w : ℕ} → AreBytes s → 8 ≤ length s → i < length s → length s < i + 8 → Reads s (length s - 8) 8 w
+pub followed_last : (s : List ℕ) (x i : ℕ) {f w : ℕ} → AreBytes s → 8 ≤ length s → i ≤ length s → length s ≤ i + 8 → Reads s (length s - 8) 8 w
     → let t = 8 * (length s - i) in Same (x / 2 ^ (64 - t) * 2 ^ 64) f
     → Same (followed x (drop i s)) (bit_xor (bit_xor f (x * 2 ^ t % 2 ^ 64)) (w % (1 * 2 ^ t % 2 ^ 64)))
 followed_last s x i {f} {w} hs h8 hi h r p =
     let t = 8 * (length s - i) in
     let v = value (drop i s) in
-    let bits : 1 * 2 ^ t % 2 ^ 64 ≡ 2 ^ t = shl_exact 1 t 64 (lit< tt) (omega arith) ∙ one-mul (2 ^ t) in
-    let last : w % (1 * 2 ^ t % 2 ^ 64) ≡ v = ap (λ (k : ℕ). w % k) bits ∙ last_bytes s i hs h8 (omega arith) (omega arith) r in
+    let last : w % (1 * 2 ^ t % 2 ^ 64) ≡ v = below_bits w t (omega arith) r.small ∙ last_bytes s i hs h8 hi h r in
     same_trans
     (same_of (followed_rest s x i ∙ sym (xor_shifted x t v (rest_lt s i hs))))
     (same_xor (same_above 64 (x / 2 ^ (64 - t)) (mod-lt (x * 2 ^ t) (pow_pos 64)) (shl_parts x (64 - t) t 64 (omega arith)) p) (same_of (sym last)))

@@ -15,3 +15,7 @@ quotient m x = let y = bit_xor x (x / 2 ^ (4 * m)) in bit_xor (bit_xor y (y / 2 
 -- what stands there: the quotient times the power's three lower terms, in 16 * m bits
 unfoldable pub folded : ℕ → ℕ → ℕ
 folded m x = let q = quotient m x in bit_xor (bit_xor q (q * 2 ^ (5 * m) % 2 ^ (16 * m))) (q * 2 ^ (12 * m) % 2 ^ (16 * m))
+
+-- at m = 8, of the upper half of what stands there the part that hangs on the register's upper half alone
+unfoldable pub kept : ℕ → ℕ
+kept hi = let q = bit_xor hi (hi / 2 ^ 32) in bit_xor q (q * 2 ^ 40 % 2 ^ 64)
