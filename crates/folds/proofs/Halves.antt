@@ -1,4 +1,5 @@
--- The fold of 128 bits, as its two halves of 64: what a shift moves out of one half comes into the other.
+-- The fold of 128 bits, as its two halves of 64: what a shift moves out of one half comes into the other. The code folds one number of
+-- 128 bits; these are the laws of one that has numbers of 64 alone.
 -- Assumes nothing.
 use mathlib.Core.Path.{◌≡◌, refl, sym, ap, ap₂, ◌∙◌}
 use Prim.Native.Nat.{ℕ, ◌+◌, ◌*◌, ◌/◌, ◌%◌, ◌^◌, ◌<◌}
@@ -21,7 +22,7 @@ halves x {u} {l} h e = (ap (λ (z : ℕ). z / 2 ^ 64) e ∙ high u 64 h, ap (λ 
 as_lower : (x : ℕ) → x ≡ 0 * 2 ^ 64 + x
 as_lower x = omega arith
 
--- the lower bits of one number above the upper bits of another, as the code joins them, and as a shift of the two together makes them
+-- the lower bits of one number above the upper bits of another, as code joins them, and as a shift of the two together makes them
 joined : (j k x y : ℕ) → x * 2 ^ j % 2 ^ 64 ≡ x % 2 ^ k * 2 ^ j → y / 2 ^ k < 2 ^ j → bit_xor (x * 2 ^ j % 2 ^ 64) (y / 2 ^ k) ≡ x * 2 ^ j % 2 ^ 64 + y / 2 ^ k
 joined j k x y e h =
     ap (λ (z : ℕ). bit_xor z (y / 2 ^ k)) e ∙ xor_shifted (x % 2 ^ k) j (y / 2 ^ k) h ∙ ap (λ (z : ℕ). z + y / 2 ^ k) (sym e)
@@ -47,7 +48,7 @@ in_128 : (u l : ℕ) {x : ℕ} → l < 2 ^ 64 → x ≡ u * 2 ^ 64 + l → x % 2
 in_128 u l {x} h e = let p = halves x h e in mod-pow-add x 64 64 ∙ ap₂ (λ (y z : ℕ). y % 2 ^ 64 * 2 ^ 64 + z) p.0 p.1
 
 module _ (hi lo : ℕ) (hh : hi < 2 ^ 64) (hl : lo < 2 ^ 64) where
-  -- the quotient's halves, as the code makes them
+  -- the quotient's halves, as code makes them
   pub quotient_halves : let q = quotient 8 (hi * 2 ^ 64 + lo) in
       (q / 2 ^ 64 ≡ bit_xor hi (hi / 2 ^ 32))
       × (q % 2 ^ 64 ≡ bit_xor (bit_xor (bit_xor (hi * 2 ^ 32 % 2 ^ 64) (hi / 2 ^ 24)) (bit_xor hi (hi / 2 ^ 32))) (bit_xor lo (lo / 2 ^ 32)))
@@ -90,7 +91,7 @@ halves_added x a b u v e g h =
     both (f / 2 ^ 64) (f % 2 ^ 64) a b (mod-lt f (pow_pos 64)) h (sym (split f 64)) refl
     ∙ ap₂ (λ (z k : ℕ). z * 2 ^ 64 + bit_xor k b) (ap (λ (z : ℕ). bit_xor z a) (sym e) ∙ xor_swap u v a) (sym g)
 
--- the fold's halves, as the code makes them of the quotient's
+-- the fold's halves, as code makes them of the quotient's
 pub folded_halves : (x : ℕ) → let q = quotient 8 x in let u = q / 2 ^ 64 in let l = q % 2 ^ 64 in
     (folded 8 x / 2 ^ 64 ≡ bit_xor (bit_xor u (u * 2 ^ 40 % 2 ^ 64)) (bit_xor (l / 2 ^ 24) (l * 2 ^ 32 % 2 ^ 64)))
     × (folded 8 x % 2 ^ 64 ≡ bit_xor l (l * 2 ^ 40 % 2 ^ 64))
