@@ -1,13 +1,20 @@
--- No second number, view or out parameter fits what a call tells.
+-- What a call by value promises is what it tells, and no second number, view or out parameter fits it.
 -- Assumes nothing.
 use Prim.Native.Nat.{ℕ}
-use mathlib.Core.Path.{◌≡◌, sym, ◌∙◌}
-use Rattle.answers.specs.Answers.{Said}
+use mathlib.Core.Path.{◌≡◌, sym, ap, ◌∙◌}
+use Rattle.answers.specs.Answers.{Said, number_said}
 use Rattle.tracker.specs.declared.Slot.{Slot}
 use Rattle.tracker.specs.declared.Tracker.{Tracker}
 use Rattle.tracker.specs.State.{State, view}
+use Rattle.tracker.specs.Outcome.{Met}
 use Rattle.told.specs.declared.Progress.{Progress}
 use Rattle.told.specs.Told.{Out, CheckpointOut, FreshOut, SlotOut}
+
+-- the one law behind every function of this crate: the number and the out parameter follow from what the call said
+pub tells : {A B : Type 0} (f : Said A → B → B) {asked said : Said A} {before after : Tracker} {new : State} (old : B) {out : B} {r : ℕ}
+    → Met A asked said before after new → r ≡ number_said said → out ≡ f said old → Out A B asked f before new old after out r
+tells f old m n o =
+    record { says = n ∙ ap number_said m.answer; state = m.state; untouched = m.untouched; tells = o ∙ ap (λ (x : _). f x old) m.answer }
 
 -- no second number, view or out parameter fits a call that `Out` states
 pub out_only : {A B : Type 0} {asked : Said A} {f : Said A → B → B} {before : Tracker} {new : State} {old : B} {after after' : Tracker} {out out' : B} {r r' : ℕ}
