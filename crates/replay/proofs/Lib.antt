@@ -1,5 +1,6 @@
 pub mod Tombstones
 pub mod Listings
+pub mod Searches
 pub mod Choices
 pub mod Starts
 pub mod Orders

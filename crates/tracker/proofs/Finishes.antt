@@ -1,6 +1,6 @@
 -- Complete and abandon: what they know once no test refused them, and what they leave.
 -- Assumes nothing.
-use Prim.Native.Nat.{ℕ, ◌<◌}
+use Prim.Native.Nat.{ℕ}
 use mathlib.Core.Path.{◌≡◌, refl, sym, ap, ◌∙◌}
 use mathlib.Core.Bool.{Bool, true, false, cond, not, ◌&&◌}
 use native.Mathlib.Omega.{arith}
@@ -10,7 +10,7 @@ use lib.IntN.{ℤ, pos, nat_abs}
 use borrow.Author.Tests.{ltb-false, eq-eqb, ne_eqb, not-false}
 use Rattle.answers.specs.Numbers.{number_of}
 use Rattle.answers.specs.Answers.{accepted, first_of, pick_number}
-use Rattle.std.specs.Prelude.{Ok}
+use Rattle.std.specs.Prelude.{Ok, Err}
 use Rattle.answers.specs.declared.Refusal.{Refusal}
 use Rattle.answers.proofs.Cases.{number_not_zero}
 use Rattle.answers.proofs.Orders.{first_passed}
@@ -21,7 +21,7 @@ use Rattle.tracker.specs.Sound.{sound}
 use Rattle.tracker.specs.Finishing.{done, stale, finish_tests, finish_refusal, finish_of, matches, made_idle, abandoned, completed, CompleteMet}
 use Rattle.tracker.specs.Inner.{FinishFree, HasRoom}
 use Rattle.tracker.proofs.Sounds.{shard_room, sound_shard, sound_roomy}
-use Rattle.tracker.proofs.Outcomes.{verdict_accepts}
+use Rattle.tracker.proofs.Outcomes.{verdict_refuses, verdict_accepts}
 
 pub finish_free : (isSound : Bool) (shard : ℕ) → first_of (finish_tests isSound shard) ≡ 0 → FinishFree isSound shard
 unfolding finish_tests
@@ -56,6 +56,9 @@ module _ (t : Tracker) (shard number : ℕ) (delta : ℤ) {s : Bool} (es : s ≡
 
   number_is : {n : ℕ} → n ≡ first_of (finish_tests s shard) → n ≡ finish_refusal (view t) shard
   number_is e = e ∙ ap (λ (b : Bool). first_of (finish_tests b shard)) es
+
+  pub finish_refused : (r : Refusal) → number_of r ≡ first_of (finish_tests s shard) → CompleteMet t shard number delta (record { tracker = t; answer = Err r })
+  finish_refused r e = record { met = verdict_refuses t new (finish_refusal (view t) shard) _ r (number_is e); stale_untouched = λ f. refl }
 
   module _ (e : 0 ≡ first_of (finish_tests s shard)) where
     no_change_view : matches (slot_of (view t) shard) number ≡ false → new ≡ view t

@@ -3,9 +3,10 @@
 use mathlib.Core.Path.{◌≡◌, sym, ap, ◌∙◌, subst}
 use mathlib.Core.List.{List, [], ◌∷◌}
 use Prim.Native.Nat.{ℕ, suc, ◌+◌, ◌-◌, ◌*◌, ◌≤◌, ◌<◌}
+use native.Mathlib.Nat.{zero-add, sub-zero}
 use native.Mathlib.Omega.{arith}
 use lib.ListN.{length, get_or}
-use lib.IntN.{ℤ, pos, ◌+ℤ◌, nat_abs, +ℤ_idr, +ℤ_assoc}
+use lib.IntN.{ℤ, pos, ◌+ℤ◌, nat_abs, +ℤ_idl, +ℤ_idr, +ℤ_assoc}
 use borrow.Author.Tests.{lt-ltb, le-ltb}
 use Rattle.tracker.specs.State.{Waiting, waiting_at, seg}
 use Rattle.tracker.specs.Sums.{sum_front, count_front}
@@ -24,6 +25,10 @@ module _ (ns : List ℕ) (ds : List ℤ) where
     pub counts : count_front limit (queue_from ns ds) ≡ i + count_front limit (rest_of i)
 
   module _ (limit : ℕ) where
+    -- at the first entry nothing is passed
+    pub passed_start : Passed limit 0 (pos 0)
+    passed_start = record { small = omega arith; sums = rw (+ℤ_idl, sub-zero); counts = rw (zero-add, sub-zero) }
+
     rest_cons : (i : ℕ) → i < length ns → rest_of i ≡ waiting_at ns ds i ∷ rest_of (i + 1)
     rest_cons i h =
         seg_cons (waiting_at ns ds) i (length ns - i) (omega arith)

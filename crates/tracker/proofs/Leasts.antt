@@ -1,18 +1,34 @@
--- The search for the least place and number along a run of slots: what its answer means.
+-- The search for the least place and number along a run of slots: how the loop goes, and what its answer means.
 -- Assumes nothing.
 use mathlib.Core.Path.{◌≡◌, refl, sym, ◌∙◌, ap, subst}
 use mathlib.Core.Bool.{Bool, true, false, cond}
 use mathlib.Core.Logic.{◌⊎◌, inl, inr}
 use mathlib.Core.List.{List, [], ◌∷◌}
-use Prim.Native.Nat.{ℕ, zero, suc, ◌<◌, ◌≤◌}
+use Prim.Native.Nat.{ℕ, zero, suc, ◌+◌, ◌<◌, ◌≤◌}
 use native.Mathlib.Nat.{not-suc-le-zero, le_of_suc-le-suc}
+use native.Mathlib.Numerals.{add-one}
 use native.Mathlib.Omega.{arith}
 use lib.Dec.{ltb, eqb}
-use lib.ListN.{length, get_or}
+use lib.ListN.{length, get_or, drop, drop_of_length-le}
+use lib.Seq.{drop-cons}
 use borrow.Author.Tests.{ltb-true, ltb-false, eqb-false, eq-eqb, ne_eqb}
-use Rattle.tracker.specs.Least.{before, lesser_of, placed, step_of, least_from}
+use Rattle.tracker.specs.Least.{before, lesser_of, placed, step_of, none_are_open, least_from, least_of}
 use Rattle.tracker.specs.declared.Slot.{Slot}
 use Rattle.tracker.specs.declared.Least.{Least}
+
+-- ---- the loop: what is kept at place i, and the rest of the run from there, lead to the answer
+
+module _ (ordinal used : ℕ) (slots : List Slot) where
+  pub start : least_from (none_are_open ordinal used) (drop 0 slots) ≡ least_of ordinal used slots
+  unfolding least_of
+  start = refl
+
+  pub onward : (d : Slot) (i : ℕ) (l : Least) → i < length slots → least_from l (drop i slots) ≡ least_of ordinal used slots
+      → least_from (step_of l (get_or slots i d)) (drop (i + 1) slots) ≡ least_of ordinal used slots
+  onward d i l h e = ap (λ (k : ℕ). least_from (step_of l (get_or slots i d)) (drop k slots)) (add-one i) ∙ sym (ap (least_from l) (drop-cons slots i d h)) ∙ e
+
+  pub over : (i : ℕ) (l : Least) → length slots ≤ i → least_from l (drop i slots) ≡ least_of ordinal used slots → l ≡ least_of ordinal used slots
+  over i l h e = sym (ap (least_from l) (drop_of_length-le slots h)) ∙ e
 
 -- ---- the answer is at or before every open slot's place, and at most every open slot's number
 

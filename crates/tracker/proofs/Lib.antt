@@ -12,6 +12,7 @@ pub mod Reserves
 pub mod Records
 pub mod Finishes
 pub mod Totals
+pub mod Flats
 pub mod Sayings
 pub mod Only
 pub mod Kept

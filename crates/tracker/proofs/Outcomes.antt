@@ -5,7 +5,8 @@ use mathlib.Core.Path.{◌≡◌, refl, sym, ap, ◌∙◌}
 use mathlib.Core.Bool.{true, false}
 use mathlib.Core.List.{[]}
 use native.Mathlib.Omega.{arith}
-use Rattle.answers.specs.Numbers.{number_of}
+use Rattle.std.specs.Prelude.{Result, Ok}
+use Rattle.answers.specs.Numbers.{number_of, number_of_verdict}
 use Rattle.answers.specs.Answers.{Said, accepted, refused, unless_refused}
 use Rattle.answers.specs.declared.Refusal.{Refusal}
 use Rattle.answers.proofs.Cases.{refusal_refuses}
@@ -13,6 +14,10 @@ use Rattle.tracker.specs.declared.Tracker.{Tracker}
 use Rattle.tracker.specs.State.{State, view}
 use Rattle.tracker.specs.Sound.{sound}
 use Rattle.tracker.specs.Outcome.{Met, sound_refusal}
+
+-- an accepting verdict: no test held
+pub verdict_none : (n : ℕ) (v : Result (Unit {0}) Refusal) → number_of_verdict v ≡ n → v ≡ Ok tt → n ≡ 0
+verdict_none n v e ea = sym e ∙ ap number_of_verdict ea
 
 module _ {A : Type 0} (t : Tracker) (new : State) where
   -- a refusal leaves the very same value

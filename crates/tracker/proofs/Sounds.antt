@@ -8,7 +8,7 @@ use native.Mathlib.Omega.{arith}
 use lib.ListN.{get_or}
 use lib.IntN.{ℤ}
 use lib.Dec.{ltb, leb, eqb}
-use borrow.Author.Tests.{le-leb, leb-true}
+use borrow.Author.Tests.{le-leb, lt-leb, ne_eqb, eq-eqb, leb-true}
 use Rattle.std.proofs.lemmas.Bool.{and_parts, and_right}
 use Rattle.tracker.specs.declared.Tracker.{Tracker}
 use Rattle.tracker.specs.State.{Waiting, view, queue, places, idle}
@@ -18,13 +18,31 @@ use Rattle.tracker.proofs.Runs.{all_at, all_false, all_true}
 use Rattle.tracker.proofs.Views.{queue_length, parts_are}
 use Rattle.tracker.proofs.Ascents.{ascends_queue, below_all}
 
+-- ---- a shard's length and slot
+
+abbrev pub tests : ℕ → ℕ → ℕ → Bool
+tests n number next = leb (n + places number) 32 && (eqb number 0 || ltb number next)
+
+module _ (n number next : ℕ) where
+  pub head_long : 32 < n → false ≡ tests n number next
+  head_long h = sym (rw (lt-leb (n + places number) 32 (omega arith)))
+
+  pub head_idle : n ≤ 32 → number ≡ 0 → true ≡ tests n number next
+  head_idle h e = sym (rw (eq-eqb number 0 e, le-leb (n + 0) 32 (omega arith)))
+
+  pub head_full : (number ≡ 0 → ⊥) → 31 < n → false ≡ tests n number next
+  head_full ne h = sym (rw (ne_eqb number 0 ne, lt-leb (n + 1) 32 (omega arith)))
+
+  pub head_open : (number ≡ 0 → ⊥) → n ≤ 31 → ltb number next ≡ tests n number next
+  head_open ne h = sym (rw (ne_eqb number 0 ne, le-leb (n + 1) 32 (omega arith)))
+
 -- ---- a shard, by the three tests of the code
 
-abbrev head_of : Tracker → ℕ → Bool
-head_of t s = leb (get_or t.lengths s 0 + places (get_or t.slots s idle).number) 32 && (eqb (get_or t.slots s idle).number 0 || ltb (get_or t.slots s idle).number t.next)
+abbrev pub head_of : Tracker → ℕ → Bool
+head_of t s = tests (get_or t.lengths s 0) (get_or t.slots s idle).number t.next
 
 module _ (t : Tracker) (s : ℕ) (hs : s < 16) where
-  head_is : shard_sound (view t) s ≡ head_of t s && every (λ (w : Waiting). ltb w.number t.next) (queue (view t) s) && ascends (queue (view t) s)
+  pub head_is : shard_sound (view t) s ≡ head_of t s && every (λ (w : Waiting). ltb w.number t.next) (queue (view t) s) && ascends (queue (view t) s)
   unfolding shard_sound view
   head_is = rw (queue_length t s hs)
 
@@ -33,6 +51,9 @@ module _ (t : Tracker) (s : ℕ) (hs : s < 16) where
 
   head_most : head_of t s ≡ true → get_or t.lengths s 0 + places (get_or t.slots s idle).number ≤ 32
   head_most e = leb-true _ _ ((and_parts _ (eqb (get_or t.slots s idle).number 0 || ltb (get_or t.slots s idle).number t.next) e).0)
+
+  pub head_room : (h : Bool) → h ≡ head_of t s → h ≡ true → get_or t.lengths s 0 ≤ 32
+  head_room h e f = let g = head_most (sym e ∙ f) in omega arith
 
   -- what a sound shard's queue length is at most
   pub shard_room : shard_sound (view t) s ≡ true → get_or t.lengths s 0 + places (get_or t.slots s idle).number ≤ 32

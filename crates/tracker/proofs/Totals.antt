@@ -78,7 +78,7 @@ module _ (t : Tracker) (limit s : ℕ) (f : Front) (hs : s < 16) (p : Fronted li
 -- ---- drain
 
 -- f at the first n elements
-abbrev map_first : {A : Type 0} → ℕ → (A → A) → List A → List A
+abbrev pub map_first : {A : Type 0} → ℕ → (A → A) → List A → List A
 map_first zero f l = l
 map_first (suc n) f [] = []
 map_first (suc n) f (x ∷ l) = f x ∷ map_first n f l
@@ -100,7 +100,7 @@ module _ {A : Type 0} (f : A → A) where
   first_all zero (x ∷ l) h = absurd (omega arith)
   first_all (suc n) (x ∷ l) h = ap (λ (r : List A). f x ∷ r) (first_all n l (omega arith))
 
-abbrev with_queues : State → List (List Waiting) → State
+abbrev pub with_queues : State → List (List Waiting) → State
 with_queues m qs = record { slots = m.slots; queues = qs; next = m.next }
 
 -- the first s queues are drained, and z is their sum
@@ -173,7 +173,13 @@ pub or_no : (a b : Bool) → a ≡ false → b ≡ a || b
 or_no a b e = rw e
 
 module _ (t : Tracker) (ordinal used : ℕ) {l : Least} (el : l ≡ least_of ordinal used t.slots) {z : ℤ} (ez : z ≡ sum_of l.limit (view t).queues)
-    (long : length t.lengths ≡ 16) {empty : Bool} (ee : empty ≡ list_all (λ (n : ℕ). eqb n 0) t.lengths) {w : Bool} (ew : w ≡ l.any || not empty) (es : sound (view t) ≡ true) where
+    {empty : Bool} (ee : empty ≡ all_zero t.lengths) {w : Bool} (ew : w ≡ l.any || not empty) (es : sound (view t) ≡ true) where
   pub reaches : accepted (record { ordinal = l.ordinal; offset = l.offset; sum = z; limit = l.limit; pending = w }) ≡ checkpoint_of (view t) ordinal used
   unfolding view reached_of
-  reaches = rw (ez, ew, ee ∙ lengths_zero t.lengths long ∙ zero_empty t, el) (sym (rw es))
+  reaches = rw (ez, ew, ee ∙ zero_empty t, el) (sym (rw es))
+
+-- and where the test goes through the lengths one by one
+pub reaches_by_each : (t : Tracker) (ordinal used : ℕ) {l : Least} → l ≡ least_of ordinal used t.slots → {z : ℤ} → z ≡ sum_of l.limit (view t).queues
+    → length t.lengths ≡ 16 → {empty : Bool} → empty ≡ list_all (λ (n : ℕ). eqb n 0) t.lengths → {w : Bool} → w ≡ l.any || not empty → sound (view t) ≡ true
+    → accepted (record { ordinal = l.ordinal; offset = l.offset; sum = z; limit = l.limit; pending = w }) ≡ checkpoint_of (view t) ordinal used
+reaches_by_each t ordinal used el ez long ee ew es = reaches t ordinal used el ez (ee ∙ lengths_zero t.lengths long) ew es
