@@ -114,6 +114,15 @@ sorted_tells ns r h = by r (non_decreasing_from_is_sorted ns r h)
     by false m =
         sym (all_false (λ (j : ℕ). leb (get_or ns j 0) (get_or ns (j + 1) 0)) (length ns - 1) m.0 (let k = m.1 in omega arith) (lt-leb _ _ (m.2 0)))
 
+-- and what its test by a closure tells, of a queue or of what is the whole of it
+pub sorted_by_tells : (ns tested : List ℕ) (r : Bool) → IsAllAdjacentAnswer (λ x y b. b ≡ leb x y) tested r → tested ≡ ns → r ≡ neighbours_ascend ns
+sorted_by_tells ns tested r h whole = by r h ∙ ap neighbours_ascend whole
+  where
+    by : (b : Bool) → IsAllAdjacentAnswer (λ x y b. b ≡ leb x y) tested b → b ≡ neighbours_ascend tested
+    by true m = sym (all_true (λ (j : ℕ). leb (get_or tested j 0) (get_or tested (j + 1) 0)) (length tested - 1) (λ j hj. sym (m j 0 (omega arith))))
+    by false m =
+        sym (all_false (λ (j : ℕ). leb (get_or tested j 0) (get_or tested (j + 1) 0)) (length tested - 1) m.0 (let k = m.1 in omega arith) (sym (m.2 0)))
+
 -- where neighbours ascend the last number is the largest, so it tells whether all are below a limit
 module _ (numbers : List ℕ) (base count : ℕ) (e : neighbours_ascend_from numbers base count ≡ true) where
   later_from : (j d : ℕ) → j + d < count → get_or numbers (base + j) 0 ≤ get_or numbers (base + (j + d)) 0

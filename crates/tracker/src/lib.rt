@@ -147,11 +147,11 @@ fn put_in<T: Copy>(values: &mut [T], place: usize, end: usize, value: T)
 
 // ---- soundness
 
-// No number of a queue is above the one behind it.
+// No number of a queue is above the one behind it; equal ones may stand side by side.
 fn queue_ascends(numbers: &[u64]) -> bool
     ensures { result ≡ neighbours_ascend numbers.now }
 {
-    numbers.is_sorted()
+    numbers.is_sorted_by(|a, b| a <= b)
 }
 
 // The numbers of a queue are all below the next number: they ascend, so the last one tells.
