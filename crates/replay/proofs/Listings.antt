@@ -7,7 +7,7 @@ use mathlib.Core.Logic.{◌⊎◌, inl, inr}
 use mathlib.Core.List.{List, [], ◌∷◌, Permᴰ}
 use native.Mathlib.Omega.{arith}
 use lib.Dec.{eqb}
-use lib.ListN.{length, get_or}
+use lib.ListN.{length, get_or, take, drop}
 use borrow.Author.Tests.{eqb-true, eqb-false, eq-eqb, ne_eqb}
 use Rattle.std.proofs.lemmas.Bool.{or_cases, or_parts, or_right}
 use Rattle.std.specs.List.{list_any}
@@ -101,6 +101,24 @@ listed_any : (o : ℕ) (os : List ℕ) → list_any (λ q. eqb q o) os ≡ liste
 listed_any o [] = refl
 listed_any o (q ∷ os) = rw (eqb_turned q o) (ap (λ (b : Bool). eqb o q || b) (listed_any o os))
 
+-- what passes a test in a part of a list passes it in the list
+pub any_taken : (n : ℕ) (os : List ℕ) (p : ℕ → Bool) → list_any p (take n os) ≡ true → list_any p os ≡ true
+any_taken zero os p e = absurd (false≢true e)
+any_taken (suc n) [] p e = e
+any_taken (suc n) (q ∷ os) p e = by (or_cases (p q) (list_any p (take n os)) e) (any_taken n os p)
+  where
+    by : (p q ≡ true) ⊎ (list_any p (take n os) ≡ true) → (list_any p (take n os) ≡ true → list_any p os ≡ true) → p q || list_any p os ≡ true
+    by (inl t) rest = rw t refl
+    by (inr t) rest = or_right (p q) (list_any p os) (rest t)
+
+pub any_later : (k : ℕ) (os : List ℕ) (p : ℕ → Bool) → list_any p (drop k os) ≡ true → list_any p os ≡ true
+any_later zero os p e = e
+any_later (suc k) [] p e = e
+any_later (suc k) (q ∷ os) p e = or_right (p q) (list_any p os) (any_later k os p e)
+
+pub drop_none : (k : ℕ) (os : List ℕ) → k ≡ 0 → drop k os ≡ os
+drop_none k os e = ap (λ (j : ℕ). drop j os) e
+
 -- what the first ordinal tells: it stands again among the others, or they decide
 module _ (o : ℕ) (os : List ℕ) where
   pub twins_found : list_any (λ q. eqb q o) os ≡ true → twins (o ∷ os) ≡ true
@@ -108,6 +126,13 @@ module _ (o : ℕ) (os : List ℕ) where
 
   pub twins_passed : list_any (λ q. eqb q o) os ≡ false → twins (o ∷ os) ≡ twins os
   twins_passed e = rw (sym (listed_any o os) ∙ e)
+
+  -- the same where a part of the others is searched: what stands in it stands among them, and what doesn't, doesn't if it is all of them
+  pub twins_found_in : (part : List ℕ) → list_any (λ q. eqb q o) part ≡ true → ((p : ℕ → Bool) → list_any p part ≡ true → list_any p os ≡ true) → twins (o ∷ os) ≡ true
+  twins_found_in part e within = twins_found (within (λ q. eqb q o) e)
+
+  pub twins_passed_in : (part : List ℕ) → list_any (λ q. eqb q o) part ≡ false → part ≡ os → twins (o ∷ os) ≡ twins os
+  twins_passed_in part e whole = twins_passed (sym (ap (list_any (λ q. eqb q o)) whole) ∙ e)
 
 -- ---- any order of the list
 
