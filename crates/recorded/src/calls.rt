@@ -1,7 +1,7 @@
 // Replays a recorded call: of an operation on a data file, on numbers alone, or on the tracker.
 use crate::judge::{Judge, Recorded};
 use crate::operation::Call;
-use crate::reader::{Fault, LONGEST_RUN, Reader, Run};
+use crate::reader::{Fault, LONGEST_RUN, Malformed, Reader, Run};
 use crate::said::Said;
 use crate::{Failure, states};
 use answers::LogFile;
@@ -62,8 +62,12 @@ fn count_entries(file: LogFile, lent: &mut [u8], region: &[u8]) -> Said {
     }
 }
 
-// What a call of the tracker answers; the tracker goes on as the call left it.
-fn left<A: Into<Said>>(after: After<A>, state: &mut Tracker) -> Said {
+// Makes a call of the tracker, which goes on as the call left it. A tracker is large, so what a call
+// hands back is kept here and not beside those of all other calls.
+fn left<A: Into<Said>, F: FnOnce(Tracker) -> After<A>>(state: &mut Tracker, call: F) -> Said
+    requires { F.IsAlwaysCallable call }
+{
+    let after = call(*state);
     *state = after.tracker;
     Said::from(after.answer)
 }
@@ -103,18 +107,21 @@ fn answer(
         Call::UsedBound => Said::from(tail::used_bound(lent)),
         Call::DurableEnd => Said::from(tail::durable_end(lent, file, c as usize)),
         Call::Reserve => left(
-            tracker::reserve(*state, a as usize, b, c, d, e != 0, f),
             state,
+            |t| tracker::reserve(t, a as usize, b, c, d, e != 0, f),
         ),
-        Call::Complete => left(
-            tracker::complete(*state, a as usize, b, delta_of(c)?),
-            state,
-        ),
-        Call::Abandon => left(tracker::abandon(*state, a as usize, b), state),
-        Call::Record => left(tracker::record(*state, a as usize, delta_of(b)?), state),
+        Call::Complete => {
+            let delta = delta_of(c)?;
+            left(state, |t| tracker::complete(t, a as usize, b, delta))
+        }
+        Call::Abandon => left(state, |t| tracker::abandon(t, a as usize, b)),
+        Call::Record => {
+            let delta = delta_of(b)?;
+            left(state, |t| tracker::record(t, a as usize, delta))
+        }
         Call::Checkpoint => Said::from(tracker::checkpoint(*state, a, b)),
-        Call::Drain => left(tracker::drain(*state, a), state),
-        Call::Clear => left(tracker::clear(*state), state),
+        Call::Drain => left(state, |t| tracker::drain(t, a)),
+        Call::Clear => left(state, |t| tracker::clear(t)),
         Call::ReplayData => Said::from(replay::check_data(a as usize, b as usize, c as usize)),
         Call::ReplayTombstone => Said::from(replay::check_tombstone(a as usize, b as usize)),
         Call::StartFile => start_file(lent, a),
@@ -123,8 +130,9 @@ fn answer(
     Ok(said)
 }
 
-// Makes a call, and holds what was answered and left to what is recorded.
-pub fn replay(
+// The same as `replay` of a call of the tracker. It is lent no bytes, so no change of them can be
+// recorded.
+fn replay_on_tracker(
     judge: &mut Judge<'_>,
     file: &mut Reader<'_>,
     call: Call,
@@ -132,27 +140,81 @@ pub fn replay(
 ) -> Result<(), Failure> {
     let start = file.place();
     let numbers = file.numbers(call.numbers())?;
-    let mut runs = [Run::empty(); 3];
-    for run in runs.iter_mut().take(call.runs()) {
-        file.run(run)?;
-    }
     let recorded = Recorded::read(file)?;
-    let [mut lent, key, value] = runs;
-    // The changes that are recorded, put over the run as it was, give it as it has to be.
-    let mut expected = lent;
-    file.pieces(expected.bytes_mut())?;
-    let end = file.place();
-    check_run(call, lent.bytes()).map_err(|fault| fault.at(end))?;
+    file.pieces(&mut [])?;
     let before = *state;
-    let run = lent.bytes_mut();
-    let said = answer(call, numbers, run, key.bytes(), value.bytes(), state).map_err(
-        |fault| fault.at(start),
-    )?;
+    let said = answer(call, numbers, &mut [], &[], &[], state).map_err(|fault| fault.at(start))?;
     judge.hold_said(recorded, said)?;
-    judge.hold_bytes(expected.bytes(), lent.bytes())?;
     if said.refusal.is_some() {
         // A refusal leaves the tracker as it was.
         states::hold(judge, &before, state)?;
     }
+    Ok(())
+}
+
+// What is lent for a call: its runs, and what the first of them has to be behind it.
+#[derive(Drop)]
+pub struct Runs {
+    lent: Run,
+    key: Run,
+    value: Run,
+    expected: Run,
+}
+
+impl Runs {
+    pub fn empty() -> Runs {
+        Runs {
+            lent: Run::empty(),
+            key: Run::empty(),
+            value: Run::empty(),
+            expected: Run::empty(),
+        }
+    }
+
+    // Those that a call doesn't have are empty.
+    fn read(&mut self, file: &mut Reader<'_>, call: Call) -> Result<(), Malformed> {
+        self.lent.clear();
+        self.key.clear();
+        self.value.clear();
+        let count = call.runs();
+        if 0 < count {
+            file.run(&mut self.lent)?;
+        }
+        if 1 < count {
+            file.run(&mut self.key)?;
+        }
+        if 2 < count {
+            file.run(&mut self.value)?;
+        }
+        Ok(())
+    }
+}
+
+// Makes a call, and holds what was answered and left to what is recorded.
+pub fn replay(
+    judge: &mut Judge<'_>,
+    file: &mut Reader<'_>,
+    call: Call,
+    state: &mut Tracker,
+    runs: &mut Runs,
+) -> Result<(), Failure> {
+    if call.is_on_tracker() {
+        return replay_on_tracker(judge, file, call, state);
+    }
+    let start = file.place();
+    let numbers = file.numbers(call.numbers())?;
+    runs.read(file, call)?;
+    let recorded = Recorded::read(file)?;
+    // The changes that are recorded, put over the run as it was, give it as it has to be.
+    runs.expected.copy(&runs.lent);
+    file.pieces(runs.expected.bytes_mut())?;
+    let end = file.place();
+    check_run(call, runs.lent.bytes()).map_err(|fault| fault.at(end))?;
+    let lent = runs.lent.bytes_mut();
+    let key = runs.key.bytes();
+    let value = runs.value.bytes();
+    let said = answer(call, numbers, lent, key, value, state).map_err(|fault| fault.at(start))?;
+    judge.hold_said(recorded, said)?;
+    judge.hold_bytes(runs.expected.bytes(), runs.lent.bytes())?;
     Ok(())
 }

@@ -85,6 +85,9 @@ impl<'a> Judge<'a> {
 
     // Holds all bytes that were lent; the first that isn't as recorded has a line.
     pub fn hold_bytes(&mut self, expected: &[u8], left: &[u8]) -> io::Result<()> {
+        if expected == left {
+            return Ok(());
+        }
         for (i, (right, is)) in expected.iter().zip(left).enumerate() {
             if right != is {
                 return self.hold(format_args!("byte {i}"), u64::from(*right), u64::from(*is));

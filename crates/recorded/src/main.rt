@@ -11,6 +11,7 @@ mod reader;
 mod said;
 mod states;
 
+use calls::Runs;
 use judge::Judge;
 use operation::{OPERATIONS, Operation};
 use reader::{Fault, Malformed, Reader};
@@ -92,6 +93,7 @@ fn replay_record(
     file: &mut Reader<'_>,
     index: u32,
     state: &mut Tracker,
+    runs: &mut Runs,
     tallies: &mut Tallies,
 ) -> Result<(), Failure> {
     let start = file.place();
@@ -99,16 +101,9 @@ fn replay_record(
     let operation = Operation::try_from(number).map_err(|fault| fault.at(start))?;
     let mut judge = Judge::new(rt, index, operation);
     match operation {
-        Operation::StateSet => {
-            // The original's states are sound.
-            *state = states::read(file)?;
-            judge.hold("soundness", 1, u64::from(tracker::is_sound(*state)))?;
-        }
-        Operation::StateCheck => {
-            let expected = states::read(file)?;
-            states::hold(&mut judge, &expected, state)?;
-        }
-        Operation::Call(call) => calls::replay(&mut judge, file, call, state)?,
+        Operation::StateSet => states::set(&mut judge, file, state)?,
+        Operation::StateCheck => states::check(&mut judge, file, state)?,
+        Operation::Call(call) => calls::replay(&mut judge, file, call, state, runs)?,
     }
     tallies.count(operation, judge.agreed);
     Ok(())
@@ -121,8 +116,9 @@ fn replay_records(
     tallies: &mut Tallies,
 ) -> Result<(), Failure> {
     let mut state = tracker::fresh();
+    let mut runs = Runs::empty();
     for index in 0..count {
-        replay_record(rt, file, index, &mut state, tallies)?;
+        replay_record(rt, file, index, &mut state, &mut runs, tallies)?;
     }
     Ok(())
 }

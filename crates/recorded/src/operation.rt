@@ -125,6 +125,15 @@ impl Call {
         }
     }
 
+    // Whether a call goes to the tracker.
+    pub fn is_on_tracker(self) -> bool {
+        match self {
+            Call::Reserve | Call::Complete | Call::Abandon | Call::Record => true,
+            Call::Checkpoint | Call::Drain | Call::Clear => true,
+            _ => false,
+        }
+    }
+
     // How many runs a call has: what it is lent or looks at, then keys and values.
     pub fn runs(self) -> usize {
         match self {

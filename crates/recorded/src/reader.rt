@@ -70,7 +70,8 @@ impl fmt::Display for Malformed {
 }
 
 // A run of bytes, at the start of a room for the longest one. Nothing here allocates, so the room is
-// an array, and the run's length stands beside it.
+// an array, and the run's length stands beside it. A room is large, so each is made once and lent to
+// one record after the other; behind the run it has any bytes.
 #[derive(Clone, Copy)]
 pub struct Run {
     room: [u8; LONGEST_RUN],
@@ -83,6 +84,18 @@ impl Run {
             room: [0; LONGEST_RUN],
             length: 0,
         }
+    }
+
+    pub fn clear(&mut self) {
+        self.length = 0;
+    }
+
+    // Makes it the same run as another.
+    pub fn copy(&mut self, other: &Run) {
+        let length = other.length.min(LONGEST_RUN);
+        let room = &mut self.room[..];
+        room[..length].copy_from_slice(&other.room[..length]);
+        self.length = length;
     }
 
     pub fn bytes(&self) -> &[u8] {
@@ -169,13 +182,16 @@ impl<'a> Reader<'a> {
         Ok(())
     }
 
-    // Puts the next run into a room of zeros: its length comes first, then its pieces.
+    // Puts the next run in the place of one: its length comes first, then the pieces, which go over
+    // zeros.
     pub fn run(&mut self, run: &mut Run) -> Result<(), Malformed> {
         let length = u32::from_le_bytes(self.array()?) as usize;
         if LONGEST_RUN < length {
             return Err(Fault::RunTooLong.at(self.place));
         }
         run.length = length;
-        self.pieces(run.bytes_mut())
+        let bytes = run.bytes_mut();
+        bytes.fill(0);
+        self.pieces(bytes)
     }
 }

@@ -2,6 +2,7 @@
 // be in.
 ghost use Rattle.std.specs.Prelude.{◌<◌, IfOk};
 
+use crate::Failure;
 use crate::judge::Judge;
 use crate::reader::{Fault, Malformed, Reader};
 use std::io;
@@ -44,7 +45,7 @@ fn read_waiting(file: &mut Reader<'_>, state: &mut Tracker) -> Result<(), Malfor
     Ok(())
 }
 
-pub fn read(file: &mut Reader<'_>) -> Result<Tracker, Malformed> {
+fn read(file: &mut Reader<'_>) -> Result<Tracker, Malformed> {
     let mut state = tracker::fresh();
     state.next = u64::from_le_bytes(file.array()?);
     let [slots] = file.array::<1>()?;
@@ -56,6 +57,24 @@ pub fn read(file: &mut Reader<'_>) -> Result<Tracker, Malformed> {
         read_waiting(file, &mut state)?;
     }
     Ok(state)
+}
+
+// Sets the next state; the original's states are sound.
+pub fn set(
+    judge: &mut Judge<'_>,
+    file: &mut Reader<'_>,
+    state: &mut Tracker,
+) -> Result<(), Failure> {
+    *state = read(file)?;
+    judge.hold("soundness", 1, u64::from(tracker::is_sound(*state)))?;
+    Ok(())
+}
+
+// Holds the state to the next one.
+pub fn check(judge: &mut Judge<'_>, file: &mut Reader<'_>, state: &Tracker) -> Result<(), Failure> {
+    let expected = read(file)?;
+    hold(judge, &expected, state)?;
+    Ok(())
 }
 
 // Holds each part of a state. Places past a queue's length aren't part of it.
