@@ -490,12 +490,13 @@ fn slot(number: u64, ordinal: u64, offset: u64) -> Slot {
 }
 
 fn lent_abandon(rt: &HostRuntime, number: u64, asked: u64) -> io::Result<()> {
-    let mut lent = slot(number, 8, 48);
-    let answer = word(slots::abandon_slot(&mut lent, asked));
+    let kept = slots::abandon_kept(slot(number, 8, 48), asked);
+    let answer = word(kept.answer);
+    let left = kept.slot;
     print!(rt; "a lent slot with number {number} abandons {asked}: {answer}, ")?;
     println!(rt;
         "left with number {} at ({}, {})",
-        lent.number, lent.ordinal, lent.offset
+        left.number, left.ordinal, left.offset
     )
 }
 
@@ -512,11 +513,11 @@ fn lent_forms(rt: &HostRuntime) -> io::Result<()> {
     lent_abandon(rt, 0, 0)?;
     println!(rt; "-- a search along sixteen lent slots")?;
     let mut run = [slot(0, 3, 3); 16];
-    along(rt, slots::least_along(&run, 9, 4000))?;
+    along(rt, slots::least_of(run, 9, 4000))?;
     run[5] = slot(1, 9, 16);
     run[4] = slot(2, 8, 160);
     run[15] = slot(3, 8, 144);
-    along(rt, slots::least_along(&run, 9, 4000))
+    along(rt, slots::least_of(run, 9, 4000))
 }
 
 // ---- replay
