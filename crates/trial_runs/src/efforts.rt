@@ -2,7 +2,7 @@
 // checksummed, with an end and with refusal 10. A line is tried where it lies below the bound and at
 // least 8 bytes are left; a right mark with type 0, 1 or 2 adds its entry's length less 2 if the
 // whole entry lies within the region.
-use crate::judge::File;
+use crate::judge::{File, Refuses};
 use crate::sample::file;
 use crate::{judge, sample, walks};
 use answers::{LogFile, Refusal, Stopped};
@@ -46,7 +46,11 @@ fn durable_in(
 ) -> io::Result<()> {
     print!(rt; "durable end of {} bytes, bound {bound}", region.len())?;
     let answered = tail::durable_end(region, file, bound);
-    judge::told(rt, Counted(answered), expected, "request 8")
+    let case = match answered.end {
+        Ok(_) => None,
+        Err(stopped) => Some(stopped.case()),
+    };
+    judge::told_by(rt, Counted(answered), case, expected, "request 8")
 }
 
 fn durable(rt: &impl Print, region: &[u8], bound: usize, expected: Counted) -> io::Result<()> {

@@ -1,6 +1,6 @@
 // The end of a trial's line: what was answered, and whether a document says so. What was asked is
 // written before it, from the very arguments of the call.
-use answers::{LogFile, Refusal};
+use answers::{LogFile, Refusal, Stopped};
 use card::Kind;
 use entry::Entry;
 use std::{fmt, io};
@@ -81,6 +81,62 @@ impl<A: fmt::Display, E: fmt::Display> fmt::Display for Outcome<A, E> {
     }
 }
 
+// What an operation may be refused with. A place may stand beside the case.
+pub trait Refuses {
+    fn case(&self) -> Refusal;
+}
+
+impl Refuses for Refusal {
+    fn case(&self) -> Refusal {
+        *self
+    }
+}
+
+impl Refuses for Stopped {
+    fn case(&self) -> Refusal {
+        match self {
+            Stopped::Refused(refusal) => *refusal,
+            Stopped::UnknownAt(_) => Refusal::UnknownType,
+        }
+    }
+}
+
+impl Refuses for Refused {
+    fn case(&self) -> Refusal {
+        match self {
+            Refused::AsFound(refusal) => *refusal,
+            Refused::Changed(refusal) => *refusal,
+        }
+    }
+}
+
+// Document 01, "Answer numbers". A trial names a case, and its line is written by `Refusal::number`:
+// that number has to be this one.
+fn number_of(case: Refusal) -> u32 {
+    match case {
+        Refusal::HeaderTooShort => 1,
+        Refusal::WrongHeader => 2,
+        Refusal::RegionTooLarge => 3,
+        Refusal::BoundPastRegion => 4,
+        Refusal::NotOnLine => 5,
+        Refusal::EntryTooShort => 6,
+        Refusal::WrongMark => 7,
+        Refusal::WrongChecksum => 8,
+        Refusal::TypeNotAllowed => 9,
+        Refusal::UnknownType => 10,
+        Refusal::KeyTooLong => 11,
+        Refusal::ValueTooLong => 12,
+        Refusal::NoSpace => 13,
+        Refusal::ShardTooLarge => 14,
+        Refusal::NoWaitingRoom => 15,
+        Refusal::NumbersUsedUp => 16,
+        Refusal::NamespaceTooLarge => 17,
+        Refusal::TooManyOrdinals => 18,
+        Refusal::EqualOrdinals => 22,
+        Refusal::NotSound => 28,
+    }
+}
+
 // What was told, and by which document it has to be that.
 pub fn told<A: fmt::Display + PartialEq + Drop>(
     rt: &impl Print,
@@ -95,14 +151,34 @@ pub fn told<A: fmt::Display + PartialEq + Drop>(
     }
 }
 
-// The same of an operation that may be refused.
-pub fn answer<A: fmt::Display + PartialEq + Drop, E: fmt::Display + PartialEq + Drop>(
+// The same of an operation that may be refused: the number of the case has to be document 01's.
+pub fn told_by<A: fmt::Display + PartialEq + Drop>(
+    rt: &impl Print,
+    answered: A,
+    case: Option<Refusal>,
+    expected: A,
+    document: &str,
+) -> io::Result<()> {
+    match case {
+        Some(case) if case.number() != number_of(case) => {
+            println!(rt; ": {answered}, WRONG: refused {}", number_of(case))
+        }
+        _ => told(rt, answered, expected, document),
+    }
+}
+
+// The same of an operation's answer.
+pub fn answer<A: fmt::Display + PartialEq + Drop, E: fmt::Display + PartialEq + Refuses + Drop>(
     rt: &impl Print,
     answered: Result<A, E>,
     expected: Result<A, E>,
     document: &str,
 ) -> io::Result<()> {
-    told(rt, Outcome(answered), Outcome(expected), document)
+    let case = match &answered {
+        Ok(_) => None,
+        Err(refused) => Some(refused.case()),
+    };
+    told_by(rt, Outcome(answered), case, Outcome(expected), document)
 }
 
 // The same of an operation that writes: a refusal has to leave the lent bytes as found.
