@@ -250,17 +250,17 @@ fn goes_on(walked: Result<Option<Entry>, Stopped>, bound: usize) -> usize
 // next walk begins, and what was spent up to there. The window goes on from walk to walk, so that
 // no card makes them sum up the same bytes over and over. Its fields are public: whoever has come so
 // far by walks of his own goes on from there.
-#[derive(Drop)]
+#[derive(Clone, Copy)]
 pub struct Listing<'a> {
     pub window: Window<'a>,
     pub seed: u32,
     pub bound: usize,
     pub from: usize,
     pub effort: Effort,
-    ghost small: { length window.region.now ≤ largest_region },
-    ghost inside: { bound ≤ length window.region.now },
-    ghost along: { from ≤ length window.region.now },
-    ghost rest: { plus effort (list_effort (mark_from seed) window.region.now bound from) ≡ list_effort (mark_from seed) window.region.now bound 0 } by { Coded-set effort-code _ _ },
+    pub ghost small: { length window.region.now ≤ largest_region },
+    pub ghost inside: { bound ≤ length window.region.now },
+    pub ghost along: { from ≤ length window.region.now },
+    pub ghost rest: { plus effort (list_effort (mark_from seed) window.region.now bound from) ≡ list_effort (mark_from seed) window.region.now bound 0 } by { Coded-set effort-code _ _ },
 }
 
 impl<'a> Listing<'a> {
