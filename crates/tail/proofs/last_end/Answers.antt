@@ -17,9 +17,9 @@ returns-in_err-e-clause-answer c =
     let l = c.loop-e.listing in
     let told : (stopped : Stopped) → c.next.result ≡ Err stopped → said_stopped {A = ℕ} (Err stopped) ≡ durable 0 (list (mark_from a.seed) a.window.region.now a.bound a.from) =
     λ stopped q.
-        stopped_durable stopped c.loop-e.end _
-        ∙ ap (durable c.loop-e.end) (tells_list (mark_from l.seed) l.window.region.now l.bound c.next.ensures.tells _ q)
-        ∙ c.loop-e.invariant.3 in
+    stopped_durable stopped c.loop-e.end _
+    ∙ ap (durable c.loop-e.end) (tells_list (mark_from l.seed) l.window.region.now l.bound c.next.ensures.tells _ q)
+    ∙ c.loop-e.invariant.3 in
     search rules
 
 pub loop-e-smaller : goal.loop-e-smaller
