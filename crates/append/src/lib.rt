@@ -105,7 +105,8 @@ fn check(capacity: usize, used: usize, allowed: bool, asked: Item) -> Result<(),
     Ok(())
 }
 
-// Both appends.
+// Both appends. Each has this code as its own, where its type is known and what is asked stays in registers.
+#[inline(always)]
 fn append(
     region: &mut [u8],
     seed: u32,
