@@ -169,7 +169,7 @@ fn queue_below(numbers: &[u64], next: u64) -> bool
 fn head_sound(count: usize, held: u64, next: u64) -> bool
     ensures { result ≡ (leb (count + places held) 32 && (eqb held 0 || ltb held next)) }
 {
-    count <= 32 && (held == 0 || (count <= 31 && held < next))
+    count <= 32 && (held == 0 || (held < next && count <= 31))
 }
 
 #[tactic(auto, using(crate::proofs::Sounds::sound_zero))]
@@ -427,7 +427,7 @@ pub fn lesser(a: u64, b: u64) -> u64
     a.min(b)
 }
 
-// One slot more is looked at.
+// One slot more is looked at. What is kept is changed, and not built anew for each slot.
 #[tactic(auto, unfolding(crate::specs::Least::step_of))]
 pub fn step(least: Least, slot: Slot) -> Least
     ensures { result ≡ step_of least slot }
@@ -435,16 +435,14 @@ pub fn step(least: Least, slot: Slot) -> Least
     if slot.number == 0 {
         return least;
     }
-    let limit = lesser(slot.number, least.limit);
-    if least.any && !earlier(slot.ordinal, slot.offset, least.ordinal, least.offset) {
-        return Least { limit, ..least };
+    let mut kept = least;
+    if !kept.any || earlier(slot.ordinal, slot.offset, kept.ordinal, kept.offset) {
+        kept.ordinal = slot.ordinal;
+        kept.offset = slot.offset;
     }
-    Least {
-        any: true,
-        ordinal: slot.ordinal,
-        offset: slot.offset,
-        limit,
-    }
+    kept.any = true;
+    kept.limit = lesser(slot.number, kept.limit);
+    kept
 }
 
 // The least place and the least open number along a run of any length.
