@@ -119,6 +119,12 @@ any_later (suc k) (q ∷ os) p e = or_right (p q) (list_any p os) (any_later k o
 pub drop_none : (k : ℕ) (os : List ℕ) → k ≡ 0 → drop k os ≡ os
 drop_none k os e = ap (λ (j : ℕ). drop j os) e
 
+-- a list of one has none, nor has the empty one
+pub twins_few : (os : List ℕ) → length os < 2 → twins os ≡ false
+twins_few [] few = refl
+twins_few (o ∷ []) few = refl
+twins_few (o ∷ q ∷ os) few = absurd (omega (arith, few))
+
 -- what the first ordinal tells: it stands again among the others, or they decide
 module _ (o : ℕ) (os : List ℕ) where
   pub twins_found : list_any (λ q. eqb q o) os ≡ true → twins (o ∷ os) ≡ true

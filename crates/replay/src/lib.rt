@@ -54,6 +54,10 @@ pub fn check_tombstone(klen: usize, maximum: usize) -> Result<(), Refusal>
 fn has_twins(ordinals: &[u64]) -> bool
     ensures { result ≡ twins ordinals.now }
 {
+    // one file alone is soon told
+    if ordinals.len() < 2 {
+        return false;
+    }
     let mut rest = ordinals;
     while let Some((first, others)) = rest.split_first() {
         if others.contains(first) {

@@ -3,8 +3,11 @@
 use Rattle.std.proofs.Common.{sym, ap, ◌∙◌, arith}
 use lib.Seq.{take_all}
 use Rattle.replay.specs.Start.{twins}
-use Rattle.replay.proofs.Listings.{twins_found_in, twins_passed_in, any_taken, any_later, drop_none}
+use Rattle.replay.proofs.Listings.{twins_few, twins_found_in, twins_passed_in, any_taken, any_later, drop_none}
 use Rattle.replay.proofs.has_twins.Goals as goal
+
+pub returns-then-ordinals-lt2 : goal.returns-then-ordinals-lt2
+returns-then-ordinals-lt2 c = sym (twins_few _ c.if-ordinals-lt2.true)
 
 pub returns-then-contains : goal.returns-then-contains
 returns-then-contains c =
